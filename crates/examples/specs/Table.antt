@@ -1,0 +1,53 @@
+-- Document 01, "Checked examples": P1 to P8.
+use Prim.Native.Nat.{ℕ, _^_}
+use mathlib.Core.Path.{_≡_}
+use mathlib.Core.List.{List, [], _∷_, map}
+use lib.ListN.{take}
+use Rattle.laws.specs.Lists.{tab, at}
+use Rattle.key.specs.KeyTable.{tableT, keysOf}
+use Rattle.mask.specs.Video.{unmaskedVideo}
+use Rattle.mask.specs.Audio.{maskedAudio}
+
+-- what a definition answers, and what document 01 says it is
+pub record Example : Type 0 where
+  pub number : ℕ
+  pub answer : List ℕ
+  pub expected : List ℕ
+
+abbrev pub zeros : ℕ → List ℕ
+zeros = tab (λ _. 0)
+
+-- the bytes at some positions
+abbrev pub bytesAt : List ℕ → List ℕ → List ℕ
+bytesAt positions bytes = map (at bytes) positions
+
+abbrev pub p : ℕ → List ℕ → List ℕ → Example
+p number answer expected = record { number = number; answer = answer; expected = expected }
+
+unfoldable pub examples : List Example
+examples =
+    -- key 0: T
+    p 1 (tableT 0)
+    (0x00 ∷ 0x00 ∷ 0x00 ∷ 0xCC ∷ 0xF9 ∷ 0x13 ∷ 0x61 ∷ 0xFF ∷ 0x00 ∷ 0x01 ∷ 0xFF ∷ 0xFF ∷ 0x00 ∷ 0x34 ∷ 0xCB ∷ 0x00
+    ∷ 0x00 ∷ 0xFF ∷ 0xFF ∷ 0xDC ∷ 0xC7 ∷ 0x00 ∷ 0x92 ∷ 0xDC ∷ 0xFF ∷ 0x45 ∷ 0x1B ∷ 0x24 ∷ 0x20 ∷ 0xC5 ∷ 0x81 ∷ 0x19 ∷ [])
+    -- key 0: A begins
+    ∷ p 2 (take 8 (keysOf 0 .a)) (0xFF ∷ 0x55 ∷ 0xFF ∷ 0x52 ∷ 0x06 ∷ 0x55 ∷ 0x9E ∷ 0x43 ∷ [])
+    -- bit 36 set: T as key 0
+    ∷ p 3 (tableT (2 ^ 36)) (tableT 0)
+    -- bit 35 set: T4 is 01
+    ∷ p 4 (bytesAt (4 ∷ []) (tableT (2 ^ 35))) (0x01 ∷ [])
+    -- 0x23F zero bytes, key 0: unchanged
+    ∷ p 5 (unmaskedVideo (keysOf 0) (zeros 0x23F)) (zeros 0x23F)
+    -- 0x240 zero bytes, key 0, unmasked: 0x3F is 00, 0x40 is FF, 0x83 is CC, 0x140 is FF, 0x143 is 33, 0x160 is 00
+    ∷ p 6 (bytesAt (0x3F ∷ 0x40 ∷ 0x83 ∷ 0x140 ∷ 0x143 ∷ 0x160 ∷ []) (unmaskedVideo (keysOf 0) (zeros 0x240)))
+    (0x00 ∷ 0xFF ∷ 0xCC ∷ 0xFF ∷ 0x33 ∷ 0x00 ∷ [])
+    -- audio of 0x140 bytes unchanged
+    ∷ p 7 (maskedAudio (keysOf 0) (zeros 0x140)) (zeros 0x140)
+    -- of 0x141 zeros, key 0: last byte FF
+    ∷ p 8 (bytesAt (0x140 ∷ []) (maskedAudio (keysOf 0) (zeros 0x141))) (0xFF ∷ [])
+    ∷ []
+
+-- every answer is the expected one
+unfoldable pub AllHold : List Example → Type 0
+AllHold [] = Unit
+AllHold (example ∷ rest) = (example .answer ≡ example .expected) × AllHold rest

@@ -1,0 +1,4 @@
+pub mod TableLaws
+pub mod KeyBits
+pub mod Promises
+pub mod OneAnswer

@@ -1,0 +1,3 @@
+pub mod KeyTable
+pub mod CountingBits
+pub mod Promises

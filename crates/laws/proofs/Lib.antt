@@ -1,0 +1,6 @@
+pub mod OneAnswer
+pub mod Side
+pub mod TabLaws
+pub mod SpliceLaws
+pub mod UptoLaws
+pub mod XorLaws

@@ -1,0 +1,1 @@
+// Definitions and laws that every crate shares: lists by position, slices written from their front, xor. No code.

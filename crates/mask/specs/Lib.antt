@@ -1,0 +1,5 @@
+pub mod Rows
+pub mod Audio
+pub mod Video
+pub mod Positions
+pub mod Promises

@@ -1,0 +1,154 @@
+// Video and audio payloads, unmasked and masked in place, of any length.
+// Document 01, "Key table and masks". From the Rust: `mask_video` and `mask_audio`, which unmask,
+// and `apply_video_mask` and `apply_audio_mask`, which mask a copy.
+ghost use mathlib.Core.Path.{_≡_};
+ghost use Prim.Native.Nat.{_≤_};
+ghost use lib.ListN.{length};
+ghost use Rattle.mask.specs.Rows.{xored};
+ghost use Rattle.mask.specs.Audio.{maskedAudio};
+ghost use Rattle.mask.specs.Video.{clearTail, xoredHead, storedTail, unmaskedVideo, maskedVideo};
+use key::Keys;
+
+// Where the head and the tail of a payload start, how long a row is, and what the shortest masked video payload has.
+const HEAD: usize = 0x40;
+
+const TAIL: usize = 0x140;
+
+const ROW: usize = 0x20;
+
+const SHORTEST_VIDEO: usize = 0x240;
+
+// XORs each byte with the row's byte in its lane.
+fn xor_in(bytes: &mut [u8], row: [u8; 32])
+    requires { ⌜ length (now bytes) ≤ 32 ⌝ }
+    ensures { λ _. ⌜ now (bytes .exit) ≡ xored (now (bytes .entry)) row ⌝ }
+{
+    let n = bytes.len();
+    let mut lane = 0;
+    while lane < n {
+        bytes[lane] = bytes[lane] ^ row[lane];
+        lane += 1;
+    }
+}
+
+// A row of the payload, XORed with another.
+fn xor_of(bytes: &[u8], row: [u8; 32]) -> [u8; 32]
+    requires { ⌜ length (now bytes) ≡ 32 ⌝ }
+    ensures { λ r. ⌜ r ≡ xored (now (bytes .entry)) row ⌝ }
+{
+    let mut xors = [0u8; 32];
+    let mut lane = 0;
+    while lane < 32 {
+        xors[lane] = bytes[lane] ^ row[lane];
+        lane += 1;
+    }
+    xors
+}
+
+// Unmasks or masks an audio payload in place: the act is its own reverse.
+// The Rust's `mask_audio` and `apply_audio_mask`.
+pub fn mask_audio(payload: &mut [u8], keys: Keys)
+    ensures { λ _. ⌜ now (payload .exit) ≡ maskedAudio keys (now (payload .entry)) ⌝ }
+{
+    let a = keys.a;
+    let n = payload.len();
+    if n < TAIL {
+        return;
+    }
+    let rows = (n - TAIL) / ROW;
+    let mut r = 0;
+    while r < rows {
+        let start = TAIL + r * ROW;
+        let end = start + ROW;
+        xor_in(&mut payload[start..end], a);
+        r += 1;
+    }
+    let start = TAIL + rows * ROW;
+    xor_in(&mut payload[start..], a);
+}
+
+// Makes the tail clear, row by row: `mask` is the clear row before, XORed with V.
+fn clear_tail(payload: &mut [u8], v: [u8; 32])
+    requires { ⌜ 0x140 ≤ length (now payload) ⌝ }
+    ensures { λ _. ⌜ now (payload .exit) ≡ clearTail v (now (payload .entry)) ⌝ }
+{
+    let n = payload.len();
+    let rows = (n - TAIL) / ROW;
+    let mut mask = v;
+    let mut r = 0;
+    while r < rows {
+        let start = TAIL + r * ROW;
+        let end = start + ROW;
+        xor_in(&mut payload[start..end], mask);
+        mask = xor_of(&payload[start..end], v);
+        r += 1;
+    }
+    let start = TAIL + rows * ROW;
+    xor_in(&mut payload[start..], mask);
+}
+
+// XORs the head's eight rows, by a clear tail: `mask` is T, XORed with the tail's rows so far.
+fn xor_head(payload: &mut [u8], t: [u8; 32])
+    requires { ⌜ 0x240 ≤ length (now payload) ⌝ }
+    ensures { λ _. ⌜ now (payload .exit) ≡ xoredHead t (now (payload .entry)) ⌝ }
+{
+    let mut mask = t;
+    let mut r = 0;
+    while r < 8 {
+        let start = TAIL + r * ROW;
+        let end = start + ROW;
+        let next = xor_of(&payload[start..end], mask);
+        mask = next;
+        let head = HEAD + r * ROW;
+        let head_end = head + ROW;
+        xor_in(&mut payload[head..head_end], next);
+        r += 1;
+    }
+}
+
+// Masks a clear tail, row by row: `mask` is the clear row before, XORed with V.
+fn mask_tail(payload: &mut [u8], v: [u8; 32])
+    requires { ⌜ 0x140 ≤ length (now payload) ⌝ }
+    ensures { λ _. ⌜ now (payload .exit) ≡ storedTail v (now (payload .entry)) ⌝ }
+{
+    let n = payload.len();
+    let rows = (n - TAIL) / ROW;
+    let mut mask = v;
+    let mut r = 0;
+    while r < rows {
+        let start = TAIL + r * ROW;
+        let end = start + ROW;
+        let next = xor_of(&payload[start..end], v);
+        xor_in(&mut payload[start..end], mask);
+        mask = next;
+        r += 1;
+    }
+    let start = TAIL + rows * ROW;
+    xor_in(&mut payload[start..], mask);
+}
+
+// Unmasks a video payload in place. The Rust's `mask_video`.
+pub fn unmask_video(payload: &mut [u8], keys: Keys)
+    ensures { λ _. ⌜ now (payload .exit) ≡ unmaskedVideo keys (now (payload .entry)) ⌝ }
+{
+    if payload.len() < SHORTEST_VIDEO {
+        return;
+    }
+    let v = keys.v;
+    let t = keys.t;
+    clear_tail(payload, v);
+    xor_head(payload, t);
+}
+
+// Masks a video payload in place: the head first, while the tail is clear. The Rust's `apply_video_mask`.
+pub fn mask_video(payload: &mut [u8], keys: Keys)
+    ensures { λ _. ⌜ now (payload .exit) ≡ maskedVideo keys (now (payload .entry)) ⌝ }
+{
+    if payload.len() < SHORTEST_VIDEO {
+        return;
+    }
+    let v = keys.v;
+    let t = keys.t;
+    xor_head(payload, t);
+    mask_tail(payload, v);
+}
