@@ -1,0 +1,4 @@
+pub mod TypedLaws
+pub mod DigitLaws
+pub mod Promises
+pub mod OneAnswer

@@ -1,0 +1,4 @@
+pub mod TypedKeys
+pub mod KeyDigits
+pub mod Verdicts
+pub mod Promises

@@ -1,0 +1,150 @@
+// A key as an operator knows it: 1 to 16 hex digits. It is read as it was typed, taken apart into
+// its digits, and set beside a second one. No rule of this crate comes from the Rust: the rules rest
+// on the bits of a key that count, and specs/Promises.antt says how.
+ghost use mathlib.Core.Path.{_≡_};
+ghost use Prim.Native.Nat.{_≤_, _<_};
+ghost use lib.ListN.{length};
+ghost use Rattle.digits.specs.TypedKeys.{hexValue, prefixed, valueFrom, digitsRead, keyTyped};
+ghost use Rattle.digits.specs.KeyDigits.{digitAt, digitCounts, digitsDiffer};
+ghost use Rattle.digits.specs.Verdicts.{verdictOn};
+
+// What a word is that was typed as a key.
+pub enum Typed {
+    Key(u64),
+    NotAKey,
+}
+
+// What two keys have in common: every bit, every bit that counts, or not even those.
+pub enum Verdict {
+    SameKey,
+    SameStreams,
+    StreamsCanDiffer,
+}
+
+// A key has this many hex digits.
+pub const PLACES: usize = 16;
+
+// The value of a hex digit is below this; a byte that is no hex digit has this value.
+const BASE: u64 = 16;
+
+// A byte as a number.
+fn wide(byte: u8) -> u64
+    ensures { λ r. ⌜ r ≡ byte ⌝ }
+{
+    byte as u64
+}
+
+// The value of a hex digit of either case; of any other byte, 16.
+fn hex_value(byte: u8) -> u64
+    ensures { λ r. ⌜ r ≡ hexValue byte ⌝ }
+{
+    match byte {
+        b'0'..=b'9' => wide(byte - b'0'),
+        b'A'..=b'F' => wide(byte - b'A') + 10,
+        b'a'..=b'f' => wide(byte - b'a') + 10,
+        _ => BASE,
+    }
+}
+
+// Whether a word begins with `0x` or `0X`.
+fn is_prefixed(word: &[u8]) -> bool
+    ensures { λ r. ⌜ r ≡ prefixed (now (word .entry)) ⌝ }
+{
+    if word.len() < 2 {
+        return false;
+    }
+    if word[0] != b'0' {
+        return false;
+    }
+    if word[1] == b'x' {
+        return true;
+    }
+    word[1] == b'X'
+}
+
+// The key that at most 16 bytes write, if all of them are hex digits.
+fn value_of(digits: &[u8]) -> Typed
+    requires { ⌜ length (now digits) ≤ 16 ⌝ }
+    ensures { λ r. ⌜ r ≡ valueFrom 0 (now (digits .entry)) ⌝ }
+{
+    let mut value = 0;
+    let mut at = 0;
+    while at < digits.len() {
+        let digit = hex_value(digits[at]);
+        if BASE <= digit {
+            return Typed::NotAKey;
+        }
+        value = value * BASE + digit;
+        at += 1;
+    }
+    Typed::Key(value)
+}
+
+// A key from its digits. A word with too many is refused unread.
+fn read_digits(digits: &[u8]) -> Typed
+    ensures { λ r. ⌜ r ≡ digitsRead (now (digits .entry)) ⌝ }
+{
+    if digits.len() == 0 {
+        return Typed::NotAKey;
+    }
+    if PLACES < digits.len() {
+        return Typed::NotAKey;
+    }
+    value_of(digits)
+}
+
+// A key as typed: 1 to 16 hex digits of either case, with or without `0x` or `0X` in front.
+pub fn read_key(word: &[u8]) -> Typed
+    ensures { λ r. ⌜ r ≡ keyTyped (now (word .entry)) ⌝ }
+{
+    if is_prefixed(word) {
+        return read_digits(&word[2..]);
+    }
+    read_digits(word)
+}
+
+// The hex digit of a key at a place, from 0, the leftmost, to 15, the rightmost; past these it is 0. The
+// bound follows from the equation, and spares a caller the proof of it.
+pub fn digit_of(key: u64, place: usize) -> u8
+    ensures { λ r. ⌜ r ≡ digitAt key place ⌝ }
+    ensures { λ r. ⌜ r < 16 ⌝ }
+{
+    if PLACES <= place {
+        return 0;
+    }
+    ((key >> (4 * (15 - place))) % BASE) as u8
+}
+
+// Whether the digit at a place can touch a picture or ADX sound at all. Bits 56 to 63 are the digits at
+// places 0 and 1, and bits 36 to 39 the digit at place 6: these never count.
+pub fn digit_counts(place: usize) -> bool
+    ensures { λ r. ⌜ r ≡ digitCounts place ⌝ }
+{
+    if place < 2 {
+        return false;
+    }
+    if place == 6 {
+        return false;
+    }
+    place < PLACES
+}
+
+// Whether two keys have different digits at a place.
+pub fn digits_differ(first: u64, second: u64, place: usize) -> bool
+    ensures { λ r. ⌜ r ≡ digitsDiffer first second place ⌝ }
+{
+    digit_of(first, place) != digit_of(second, place)
+}
+
+// The verdict on two keys.
+pub fn verdict_on(first: u64, second: u64) -> Verdict
+    ensures { λ r. ⌜ r ≡ verdictOn first second ⌝ }
+{
+    if first == second {
+        return Verdict::SameKey;
+    }
+    if key::counting_bits(first) == key::counting_bits(second) {
+        return Verdict::SameStreams;
+    }
+    Verdict::StreamsCanDiffer
+}
