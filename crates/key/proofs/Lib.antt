@@ -1,4 +1,5 @@
 pub mod TableLaws
+pub mod VeilLaws
 pub mod KeyBits
 pub mod Promises
 pub mod OneAnswer

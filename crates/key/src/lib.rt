@@ -1,7 +1,7 @@
 // The key table: T, V and A of a 64-bit key, and the bits of a key that count.
 // Document 01, "Key table and masks". From the Rust: `get_mask`.
 ghost use mathlib.Core.Path.{_≡_};
-ghost use Rattle.key.specs.KeyTable.{plus, minus, tableT, tableV, tableA, keysOf};
+ghost use Rattle.key.specs.KeyTable.{plus, minus, tableT, keysOf};
 ghost use Rattle.key.specs.CountingBits.{countingBits};
 
 // T, V and A, as one value. The Rust's `VideoMask` is the pair of t and v, its `AudioMask` is a.
@@ -97,43 +97,26 @@ fn table_t(key: u64) -> [u8; 32]
     ]
 }
 
-// V: T with every bit inverted.
-fn table_v(t: [u8; 32]) -> [u8; 32]
-    ensures { λ r. ⌜ r ≡ tableV t ⌝ }
-{
-    let mut v = t;
-    let mut i = 0;
-    while i < 32 {
-        v[i] = t[i] ^ 0xFF;
-        i += 1;
-    }
-    v
-}
-
-const LETTERS: [u8; 4] = [b'U', b'R', b'U', b'C'];
-
-// A: V at even positions, the letters U, R, U, C in turn at odd ones.
-fn table_a(v: [u8; 32]) -> [u8; 32]
-    ensures { λ r. ⌜ r ≡ tableA v ⌝ }
-{
-    let mut a = v;
-    let mut i = 0;
-    while i < 32 {
-        if i % 2 == 1 {
-            a[i] = LETTERS[i / 2 % 4];
-        }
-        i += 1;
-    }
-    a
-}
+// A before V is put in: the letters U, R, U, C in turn at odd positions.
+const LETTERS: [u8; 32] = *b"\0U\0R\0U\0C\0U\0R\0U\0C\0U\0R\0U\0C\0U\0R\0U\0C";
 
 // T, V and A of a key. The Rust's `get_mask`.
+// V and A stay in one loop, as they are in the Rust. With a loop for each, the compiler unrolls both and puts the
+// table into its callers as single bytes, and the video masks of the static library become 20 times slower.
 pub fn key_table(key: u64) -> Keys
     ensures { λ r. ⌜ r ≡ keysOf key ⌝ }
 {
     let t = table_t(key);
-    let v = table_v(t);
-    let a = table_a(v);
+    let mut v = t;
+    let mut a = LETTERS;
+    let mut i = 0;
+    while i < 32 {
+        v[i] = t[i] ^ 0xFF;
+        if i % 2 == 0 {
+            a[i] = t[i] ^ 0xFF;
+        }
+        i += 1;
+    }
     Keys { t, v, a }
 }
 

@@ -13,7 +13,7 @@ fn number_after(x: u64) -> u64
 }
 
 // Fills a payload with the generator's bytes, from its start.
-pub fn fill(payload: &mut [u8])
+pub(crate) fn fill(payload: &mut [u8])
     ensures { λ _. ⌜ ((i : ℕ) → i < length (now (payload .entry)) → getD (now (payload .exit)) i 0 ≡ payloadByte i) ⌝ }
 {
     let mut x = 1;
@@ -34,7 +34,7 @@ fn digest_after(h: u64, b: u8) -> u64
 }
 
 // The digest of a payload.
-pub fn digest(payload: &[u8]) -> u64
+pub(crate) fn digest(payload: &[u8]) -> u64
     ensures { λ r. ⌜ r ≡ digestOf (now (payload .entry)) ⌝ }
 {
     let mut h = 0;

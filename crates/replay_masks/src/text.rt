@@ -12,7 +12,7 @@ pub struct Line {
 const DIGITS: [u8; 16] = *b"0123456789abcdef";
 
 // The line with nothing on it.
-pub fn empty() -> Line
+pub(crate) fn empty() -> Line
     ensures { λ r. ⌜ r .len ≡ 0 ⌝ }
 {
     Line {
@@ -23,7 +23,7 @@ pub fn empty() -> Line
 
 impl Line {
     // The line with a word after it.
-    pub fn word(self, word: &[u8]) -> Line
+    pub(crate) fn word(self, word: &[u8]) -> Line
         requires { ⌜ self .len + length (now word) ≤ 216 ⌝ }
         ensures { λ r. ⌜ r .len ≡ self .len + length (now (word .entry)) ⌝ }
     {
@@ -41,7 +41,7 @@ impl Line {
     }
 
     // The line with the last `count` digits of a number in a base after it.
-    pub fn digits(self, n: u64, base: u64, count: usize) -> Line
+    pub(crate) fn digits(self, n: u64, base: u64, count: usize) -> Line
         requires { ⌜ (0 < base) × (base ≤ 16) × (self .len + count ≤ 216) ⌝ }
         ensures { λ r. ⌜ r .len ≡ self .len + count ⌝ }
     {
@@ -59,7 +59,7 @@ impl Line {
     }
 
     // The line with two hex digits after it for each byte of a table.
-    pub fn hex_bytes(self, table: &[u8; 96]) -> Line
+    pub(crate) fn hex_bytes(self, table: &[u8; 96]) -> Line
         requires { ⌜ self .len + 192 ≤ 216 ⌝ }
         ensures { λ r. ⌜ r .len ≡ self .len + 192 ⌝ }
     {
@@ -74,7 +74,7 @@ impl Line {
     }
 
     // The line with a space and a digest's eight digits after it.
-    pub fn field(self, digest: u64) -> Line
+    pub(crate) fn field(self, digest: u64) -> Line
         requires { ⌜ self .len + 9 ≤ 216 ⌝ }
         ensures { λ r. ⌜ r .len ≡ self .len + 9 ⌝ }
     {
@@ -82,7 +82,7 @@ impl Line {
     }
 
     // Writes the line and LF.
-    pub fn end(self)
+    pub(crate) fn end(self)
         requires { ⌜ self .len < 216 ⌝ }
     {
         let line = self.word(b"\n");
@@ -99,7 +99,7 @@ fn write_first(bytes: [u8; 216], len: usize)
 }
 
 // How many decimal digits a number below 10,000 has.
-pub fn places(n: u64) -> usize
+pub(crate) fn places(n: u64) -> usize
     requires { ⌜ n < 10000 ⌝ }
     ensures { λ r. ⌜ r ≤ 4 ⌝ }
 {
