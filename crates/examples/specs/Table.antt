@@ -1,4 +1,4 @@
--- Document 01, "Checked examples": P1 to P8.
+-- Document 01, "Checked examples": P1 to P11.
 use Prim.Native.Nat.{ℕ, _^_}
 use mathlib.Core.Path.{_≡_}
 use mathlib.Core.List.{List, [], _∷_, map}
@@ -7,6 +7,15 @@ use Rattle.laws.specs.Lists.{tab, at}
 use Rattle.key.specs.KeyTable.{tableT, keysOf}
 use Rattle.mask.specs.Video.{unmaskedVideo}
 use Rattle.mask.specs.Audio.{maskedAudio}
+use Rattle.cell.specs.declared.CellAnswer.{CellAnswer}
+use Rattle.cell.specs.declared.CellAnswer.the-variants.{Got, Refused}
+use Rattle.cell.specs.Cells.{cellAt}
+use Rattle.codec.specs.declared.Codec.{Codec}
+use Rattle.codec.specs.declared.Codec.the-variants.{Absent}
+use Rattle.codec.specs.declared.VideoKind.the-variants.{Ivf}
+use Rattle.codec.specs.Codecs.{codecOf}
+use Rattle.codec.specs.Kinds.{videoKind}
+use Rattle.codec.specs.Numbers.{valueOf, videoNumber}
 
 -- what a definition answers, and what document 01 says it is
 pub record Example : Type 0 where
@@ -20,6 +29,19 @@ zeros = tab (λ _. 0)
 -- the bytes at some positions
 abbrev pub bytesAt : List ℕ → List ℕ → List ℕ
 bytesAt positions bytes = map (at bytes) positions
+
+-- the codec of a cell that was read; a refused one has none
+abbrev pub codecRead : CellAnswer → Codec
+codecRead (Got cell) = codecOf cell
+codecRead (Refused cause) = Absent
+
+-- the codec of the cell of a type that stands at the start of a body
+abbrev pub codecIn : List ℕ → ℕ → Codec
+codecIn body type = codecRead (cellAt body type 0 0 0)
+
+-- a codec's number and the number of the video kind that follows
+abbrev pub numbersOf : Codec → List ℕ
+numbersOf codec = valueOf codec ∷ videoNumber (videoKind codec) ∷ []
 
 abbrev pub p : ℕ → List ℕ → List ℕ → Example
 p number answer expected = record { number = number; answer = answer; expected = expected }
@@ -45,6 +67,12 @@ examples =
     ∷ p 7 (maskedAudio (keysOf 0) (zeros 0x140)) (zeros 0x140)
     -- of 0x141 zeros, key 0: last byte FF
     ∷ p 8 (bytesAt (0x140 ∷ []) (maskedAudio (keysOf 0) (zeros 0x141))) (0xFF ∷ [])
+    -- signed byte FF
+    ∷ p 9 (valueOf (codecIn (0xFF ∷ []) 1) ∷ []) (4294967295 ∷ [])
+    -- signed short 8000
+    ∷ p 10 (valueOf (codecIn (0x80 ∷ 0x00 ∷ []) 3) ∷ []) (4294934528 ∷ [])
+    -- 64-bit 1_0000_0009: the codec, and its kind
+    ∷ p 11 (numbersOf (codecIn (0 ∷ 0 ∷ 0 ∷ 1 ∷ 0 ∷ 0 ∷ 0 ∷ 9 ∷ []) 6)) (9 ∷ videoNumber Ivf ∷ [])
     ∷ []
 
 -- every answer is the expected one

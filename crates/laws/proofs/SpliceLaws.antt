@@ -8,12 +8,12 @@ use lib.Seq.{getD-take, getD-drop, getD-append-add, length-take-le}
 use Rattle.laws.specs.Lists.{at}
 
 -- past the first list, the second
-at-right : (xs ys : List ℕ) (n p : ℕ) → length xs ≡ n → n ≤ p → at (xs ++ ys) p ≡ at ys (p - n)
+pub at-right : (xs ys : List ℕ) (n p : ℕ) → length xs ≡ n → n ≤ p → at (xs ++ ys) p ≡ at ys (p - n)
 at-right xs ys n p e h =
     let q : p ≡ length xs + (p - n) = omega arith in
     ap (λ (m : ℕ). at (xs ++ ys) m) q ∙ getD-append-add xs ys (p - n) 0
 
-at-left : (xs ys : List ℕ) (n p : ℕ) → length xs ≡ n → p < n → at (xs ++ ys) p ≡ at xs p
+pub at-left : (xs ys : List ℕ) (n p : ℕ) → length xs ≡ n → p < n → at (xs ++ ys) p ≡ at xs p
 at-left xs ys n p e h = List·getD-append xs ys 0 p (omega arith)
 
 -- a byte of a part

@@ -5,12 +5,12 @@ use mathlib.Core.List.{List, _++_}
 use Prim.Native.Nat.{ℕ, _+_, _-_, _≤_, _<_}
 use native.Mathlib.Nat.{not-suc-le-zero}
 use native.Mathlib.Omega.{arith}
-use lib.ListN.{length, take, drop, set, length-set}
-use lib.Seq.{getD-set-same, getD-set-other}
+use lib.ListN.{length, take, drop, set, length-set, length-append, length-drop}
+use lib.Seq.{ext-getD, getD-set-same, getD-set-other, getD-take, getD-drop, length-take-le}
 use Rattle.laws.specs.Lists.{tab, at}
 use Rattle.laws.proofs.Side.{side}
 use Rattle.laws.proofs.TabLaws.{tab-ext}
-use Rattle.laws.proofs.SpliceLaws.{splice-length, splice-below, splice-in, splice-above}
+use Rattle.laws.proofs.SpliceLaws.{at-left, at-right, splice-length, splice-below, splice-in, splice-above}
 
 -- s is s₀ with the bytes below k as f says, and the others as they were
 pub record Upto (f : ℕ → ℕ) (s₀ s : List ℕ) (k : ℕ) : Type 0 where
@@ -65,3 +65,15 @@ module _ (f : ℕ → ℕ) (s₀ : List ℕ) where
             (side p i);
         above = λ p l. splice-above s y i e h k ly p l ∙ u .above p (omega arith);
       }
+
+-- what was written are the first n of a list
+pub upto-written : (l s₀ s : List ℕ) (n : ℕ) → Upto (at l) s₀ s n → n ≤ length l → n ≤ length s₀ → s ≡ take n l ++ drop n s₀
+upto-written l s₀ s n u h k =
+    let front : length (take n l) ≡ n = length-take-le n l h in
+    ext-getD 0 s (take n l ++ drop n s₀) (u .len ∙ simp (length-append, length-drop) (omega arith))
+    (λ p _.
+    ⊎-elim (λ (b : p < n). u .below p b ∙ sym (at-left (take n l) (drop n s₀) n p front b ∙ getD-take n l p 0 b))
+    (λ (b : n ≤ p).
+    let w : n + (p - n) ≡ p = omega arith in
+    u .above p b ∙ sym (at-right (take n l) (drop n s₀) n p front b ∙ getD-drop n s₀ (p - n) 0 ∙ ap (at s₀) w))
+    (side p n))

@@ -1,0 +1,5 @@
+pub mod Types
+pub mod Parts
+pub mod Cells
+pub mod CellNumbers
+pub mod Promises

@@ -1,0 +1,4 @@
+pub mod Codecs
+pub mod Kinds
+pub mod Numbers
+pub mod Promises

@@ -1,0 +1,58 @@
+// Bytes and big-endian numbers at a place of a slice. A byte past the end reads as 0, so every place has an answer:
+// whether enough bytes are there is another question, which `left_from` answers.
+// Document 01, "@UTF tables": "Big-endian throughout." From the Rust: the reads of `reader.rs`.
+ghost use mathlib.Core.Path.{_≡_};
+ghost use Prim.Native.Nat.{_-_, _<_, _^_};
+ghost use lib.ListN.{length};
+ghost use Rattle.laws.specs.Lists.{at};
+ghost use Rattle.word.specs.Numbers.{be16, be32, be64};
+
+// How many bytes a slice has from a place on.
+pub fn left_from(bytes: &[u8], place: usize) -> usize
+    ensures { λ r. ⌜ r ≡ length (now (bytes .entry)) - place ⌝ }
+{
+    if place < bytes.len() {
+        return bytes.len() - place;
+    }
+    0
+}
+
+// The byte at a place, as a wider number.
+pub fn read8(bytes: &[u8], place: usize) -> usize
+    ensures { λ r. ⌜ (r ≡ at (now (bytes .entry)) place) × (r < 2 ^ 8) ⌝ }
+{
+    if place < bytes.len() {
+        return bytes[place] as usize;
+    }
+    0
+}
+
+// The number of the two bytes at a place.
+pub fn read16(bytes: &[u8], place: usize) -> usize
+    ensures { λ r. ⌜ (r ≡ be16 (now (bytes .entry)) place) × (r < 2 ^ 16) ⌝ }
+{
+    if left_from(bytes, place) < 2 {
+        return read8(bytes, place) * 0x100;
+    }
+    read8(bytes, place) * 0x100 + read8(bytes, place + 1)
+}
+
+// The number of the four bytes at a place.
+pub fn read32(bytes: &[u8], place: usize) -> usize
+    ensures { λ r. ⌜ (r ≡ be32 (now (bytes .entry)) place) × (r < 2 ^ 32) ⌝ }
+{
+    if left_from(bytes, place) < 3 {
+        return read16(bytes, place) * 0x1_0000;
+    }
+    read16(bytes, place) * 0x1_0000 + read16(bytes, place + 2)
+}
+
+// The number of the eight bytes at a place.
+pub fn read64(bytes: &[u8], place: usize) -> usize
+    ensures { λ r. ⌜ r ≡ be64 (now (bytes .entry)) place ⌝ }
+{
+    if left_from(bytes, place) < 5 {
+        return read32(bytes, place) * 0x1_0000_0000;
+    }
+    read32(bytes, place) * 0x1_0000_0000 + read32(bytes, place + 4)
+}
