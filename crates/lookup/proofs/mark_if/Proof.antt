@@ -1,0 +1,12 @@
+-- `lookup::mark_if` meets its contract. Assumes nothing.
+use Rattle.lookup.proofs.mark_if.Statement.{statement}
+use Rattle.lookup.proofs.mark_if.Tie as tie
+
+returns : tie.Need-returns
+returns c = rw (c .if1 .taken)
+
+returns-2 : tie.Need-returns-2
+returns-2 c = rw (c .if1 .left)
+
+pub mark-if-spec : {M : Type 1} → statement M
+mark-if-spec = tie.close (tie.spec returns returns-2)

@@ -1,0 +1,6 @@
+pub mod ZeroLaws
+pub mod CheckLaws
+pub mod WalkLaws
+pub mod TableLaws
+pub mod OneAnswer
+pub mod Promises

@@ -1,0 +1,4 @@
+pub mod Walks
+pub mod LastZero
+pub mod Tables
+pub mod Promises
