@@ -1,0 +1,43 @@
+-- `usm::cell_words` meets its contract, by cases of the answer. Assumes nothing.
+use mathlib.Core.Path.{sym, ap, _∙_}
+use borrow.Author.Needs.{needs}
+use Rattle.usm.specs.Reports.{cellWords}
+use Rattle.usm.proofs.cell_words.Statement.{statement}
+use Rattle.usm.proofs.cell_words.Tie as tie
+
+enum-known-answer : tie.Need-enum-known-answer
+enum-known-answer c = search needs
+
+case-of-requires : tie.Need-case-of-requires
+case-of-requires c κs = search needs
+
+value-of-requires : tie.Need-value-of-requires
+value-of-requires c κs = search needs
+
+length-of-requires : tie.Need-length-of-requires
+length-of-requires c κs = search needs
+
+enum-known-answer-2 : tie.Need-enum-known-answer-2
+enum-known-answer-2 c = search needs
+
+refused-words-requires : tie.Need-refused-words-requires
+refused-words-requires c κs = search needs
+
+returns : tie.Need-returns
+returns c = rw (c .length-of .ensures, c .before .value-of .ensures, c .before .before .case-of .ensures) (sym (ap cellWords (c .before .before .before .before .answer .given .1)))
+
+returns-2 : tie.Need-returns-2
+returns-2 c = c .refused-words .ensures ∙ sym (ap cellWords (c .before .before .answer2 .given .1))
+
+pub cell-words-spec : {M : Type 1} → statement M
+cell-words-spec =
+    tie.close
+    (tie.spec
+    enum-known-answer
+    case-of-requires
+    value-of-requires
+    length-of-requires
+    enum-known-answer-2
+    refused-words-requires
+    returns
+    returns-2)
