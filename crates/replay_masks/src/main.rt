@@ -1,10 +1,8 @@
 // Replays recorded answers of the original Rust: reads keys from standard input and writes what the
 // library's five exported functions answer for each. README.md beside this crate has the format.
-ghost use mathlib.Core.Path.{_≡_};
 ghost use Prim.Native.Nat.{_≤_};
 
 mod payload;
-mod text;
 
 use digits::Typed;
 use text::Line;
@@ -66,10 +64,13 @@ fn answer(act: Act, key: u64, len: usize) -> u64
 }
 
 // A line that begins with a key.
-fn line_of(key: u64) -> Line
-    ensures { λ r. ⌜ r .len ≡ 16 ⌝ }
-{
-    text::empty().digits(key, 16, 16)
+fn line_of(key: u64) -> Line {
+    text::empty().hex(key, 16)
+}
+
+// A line with a space and a digest's eight digits after it.
+fn with_digest(line: Line, digest: u64) -> Line {
+    line.word(b" ").hex(digest, 8)
 }
 
 // Writes the line of a key's T, V and A, or none where the library does not give 96 bytes.
@@ -90,15 +91,9 @@ fn replay_payload(key: u64, len: usize)
     let masked_video = answer(Act::MaskVideo, key, len);
     let unmasked_audio = answer(Act::UnmaskAudio, key, len);
     let masked_audio = answer(Act::MaskAudio, key, len);
-    let length = len as u64;
-    line_of(key)
-        .word(b" ")
-        .digits(length, 10, text::places(length))
-        .field(unmasked_video)
-        .field(masked_video)
-        .field(unmasked_audio)
-        .field(masked_audio)
-        .end();
+    let line = line_of(key).word(b" ").decimal(len as u64);
+    let video = with_digest(with_digest(line, unmasked_video), masked_video);
+    with_digest(with_digest(video, unmasked_audio), masked_audio).end();
 }
 
 // Writes all lines of a key.

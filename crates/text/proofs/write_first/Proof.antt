@@ -1,9 +1,12 @@
--- `replay_masks::text::write_first` is safe. Assumes nothing.
+-- `text::write_first` is safe. Assumes nothing.
 use native.Mathlib.Omega.{arith}
 use lib.ListN.{length-take}
 use borrow.Author.Needs.{needs}
-use Rattle.replay_masks.proofs.text.write_first.Statement.{statement}
-use Rattle.replay_masks.proofs.text.write_first.Tie as tie
+use Rattle.text.proofs.write_first.Statement.{statement}
+use Rattle.text.proofs.write_first.Tie as tie
+
+returns : tie.Need-returns
+returns c = search needs
 
 array-share-prefix-bytes : tie.Need-array-share-prefix-bytes
 array-share-prefix-bytes c = search needs
@@ -14,10 +17,15 @@ slice-aggregate-write-all c = simp length-take (omega arith)
 write-all-requires : tie.Need-write-all-requires
 write-all-requires c κs = search needs
 
-returns : tie.Need-returns
-returns c = search needs
+returns-2 : tie.Need-returns-2
+returns-2 c = search needs
 
 pub write-first-spec : {M : Type 1} → statement M
 write-first-spec =
     tie.close
-    (tie.spec array-share-prefix-bytes slice-aggregate-write-all write-all-requires returns)
+    (tie.spec
+    returns
+    array-share-prefix-bytes
+    slice-aggregate-write-all
+    write-all-requires
+    returns-2)

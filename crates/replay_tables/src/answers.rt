@@ -1,0 +1,86 @@
+// The lines that are written: what our functions answer on a table, and on a name and a row of it.
+use cell::Cell;
+use lookup::Lookup;
+use refusal::Refusal;
+use table::TableAnswer;
+
+// The refusal that names a type.
+const UNKNOWN_TYPE: u8 = 8;
+
+// The least number of 64 bits that stands for a negative one.
+const NEGATIVE: u64 = 0x8000_0000_0000_0000;
+
+// A byte as a number.
+fn wide(byte: u8) -> u64 {
+    byte as u64
+}
+
+// Writes a word and a number.
+fn write_number(word: &[u8], n: u64) {
+    text::empty().word(word).decimal(n).end();
+}
+
+// Writes a refusal's number, and the type beside number 8.
+fn write_refusal(refusal: Refusal) {
+    let cause = refusal.cause;
+    let number = refusal::number_of(cause);
+    let line = text::empty().word(b"refused ").decimal(wide(number));
+    if number == UNKNOWN_TYPE {
+        line.word(b" type ")
+            .decimal(wide(refusal::type_of(cause)))
+            .end();
+        return;
+    }
+    line.end();
+}
+
+// Writes a signed number by its 64 bits.
+fn write_signed(bits: u64) {
+    if bits < NEGATIVE {
+        write_number(b"signed ", bits);
+        return;
+    }
+    write_number(b"signed -", !bits + 1);
+}
+
+// Writes a float by its bits.
+fn write_float(bits: u64) {
+    text::empty().word(b"float ").hex(bits, 8).end();
+}
+
+// Writes a word and the bytes of a string or data cell.
+fn write_part(word: &[u8], bytes: &[u8], cell: Cell) {
+    text::empty()
+        .word(word)
+        .hex_bytes(part::part_of(bytes, cell))
+        .end();
+}
+
+// Writes what a cell holds.
+fn write_held(bytes: &[u8], cell: Cell) {
+    match cell {
+        Cell::Nothing => text::empty().word(b"nothing").end(),
+        Cell::Unsigned(_) => write_number(b"unsigned ", cell::value_of(cell)),
+        Cell::Signed(_) => write_signed(cell::value_of(cell)),
+        Cell::Float(_) => write_float(cell::value_of(cell)),
+        Cell::NotANumber(_) => write_float(cell::value_of(cell)),
+        Cell::Text { start: _, len: _ } => write_part(b"string ", bytes, cell),
+        Cell::Data { start: _, len: _ } => write_part(b"data ", bytes, cell),
+    }
+}
+
+// Writes the answer on the table that the bytes begin with.
+pub(crate) fn write_table(bytes: &[u8]) {
+    match table::read_table(bytes, 0) {
+        TableAnswer::Table { columns: _, rows } => write_number(b"table ", rows as u64),
+        TableAnswer::NoTable(refusal) => write_refusal(refusal),
+    }
+}
+
+// Writes the answer on a name and a row of that table.
+pub(crate) fn write_cell(bytes: &[u8], name: &[u8], row: usize) {
+    match lookup::cell_of(bytes, 0, name, row) {
+        Lookup::Holds(cell) => write_held(bytes, cell),
+        Lookup::NoTable(refusal) => write_refusal(refusal),
+    }
+}

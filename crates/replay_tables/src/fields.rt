@@ -1,0 +1,159 @@
+// The list's lines and their fields: hex digits that stand for bytes, and a row's number.
+ghost use Prim.Native.Nat.{_≤_, _<_};
+ghost use lib.ListN.{length};
+ghost use Rattle.io.specs.Counts.{Counts};
+
+// What a field is that should be a row.
+pub enum Row {
+    At(usize),
+    NotARow,
+}
+
+// The largest row that a query names.
+const MOST_ROW: usize = 0xFFFF_FFFF;
+
+// One past the line that starts at a place, and past its LF.
+pub(crate) fn next_line(list: &[u8], at: usize) -> usize
+    requires { ⌜ at < length (now list) ⌝ }
+    ensures { λ r. ⌜ (at < r) × (r ≤ length (now (list .entry))) ⌝ }
+{
+    let mut i = at;
+    while i < list.len() {
+        if list[i] == b'\n' {
+            return i + 1;
+        }
+        i += 1;
+    }
+    i
+}
+
+// Whether a list has a line, and LF ends the last one.
+pub(crate) fn ends_in_line(list: &[u8]) -> bool {
+    if list.len() == 0 {
+        return false;
+    }
+    list[list.len() - 1] == b'\n'
+}
+
+// Whether a line begins with a letter and a space.
+pub(crate) fn is_marked(line: &[u8], letter: u8) -> bool {
+    if line.len() < 2 {
+        return false;
+    }
+    if line[0] != letter {
+        return false;
+    }
+    line[1] == b' '
+}
+
+// What stands on a line from a place on: nothing where it ends before.
+pub(crate) fn rest_from(line: &[u8], at: usize) -> &[u8] {
+    if line.len() < at {
+        return &line[..0];
+    }
+    &line[at..]
+}
+
+// Where the first space of a text stands, or where the text ends.
+pub(crate) fn gap_in(text: &[u8]) -> usize
+    ensures { λ r. ⌜ Counts r (now (text .entry)) ⌝ }
+{
+    let mut i = 0;
+    while i < text.len() {
+        if text[i] == b' ' {
+            return i;
+        }
+        i += 1;
+    }
+    i
+}
+
+// The value of a lower-case hex digit; of any other byte, 16.
+fn digit_value(byte: u8) -> u8
+    ensures { λ r. ⌜ r ≤ 16 ⌝ }
+{
+    match byte {
+        b'0'..=b'9' => byte - b'0',
+        b'a'..=b'f' => byte - b'a' + 10,
+        _ => 16,
+    }
+}
+
+// Whether each byte of a text is a lower-case hex digit.
+fn is_digits(text: &[u8]) -> bool {
+    let mut i = 0;
+    while i < text.len() {
+        if digit_value(text[i]) == 16 {
+            return false;
+        }
+        i += 1;
+    }
+    true
+}
+
+// Whether a text stands for at most `most` bytes.
+pub(crate) fn is_hex(text: &[u8], most: usize) -> bool {
+    if text.len() % 2 != 0 {
+        return false;
+    }
+    if most < text.len() / 2 {
+        return false;
+    }
+    is_digits(text)
+}
+
+// The byte that two digits stand for.
+fn byte_of(high: u8, low: u8) -> u8 {
+    digit_value(high) % 16 * 16 + digit_value(low) % 16
+}
+
+// Puts the bytes that a text stands for at the start of a buffer, as many as it holds, and answers how many.
+pub(crate) fn decode(text: &[u8], bytes: &mut [u8]) -> usize
+    ensures { λ r. ⌜ Counts r (now (bytes .exit)) ⌝ }
+{
+    let count = least(text.len() / 2, bytes.len());
+    let mut i = 0;
+    while i < count {
+        bytes[i] = byte_of(text[2 * i], text[2 * i + 1]);
+        i += 1;
+    }
+    count
+}
+
+// The lesser of two numbers.
+fn least(a: usize, b: usize) -> usize
+    ensures { λ r. ⌜ (r ≤ a) × (r ≤ b) ⌝ }
+{
+    if a < b {
+        return a;
+    }
+    b
+}
+
+// A byte as a number.
+fn wide(byte: u8) -> usize
+    ensures { λ r. ⌜ r < 256 ⌝ }
+{
+    byte as usize
+}
+
+// The row that a text writes in decimal digits.
+pub(crate) fn row_of(text: &[u8]) -> Row {
+    if text.len() == 0 {
+        return Row::NotARow;
+    }
+    let mut row = 0;
+    let mut i = 0;
+    while i < text.len() {
+        let digit = wide(digit_value(text[i]));
+        if 9 < digit {
+            return Row::NotARow;
+        }
+        row = row * 10 + digit;
+        if MOST_ROW < row {
+            return Row::NotARow;
+        }
+        i += 1;
+    }
+    Row::At(row)
+}

@@ -1,0 +1,70 @@
+-- `text::Line::word` meets its contract: the word fits, and its first i bytes are put. Assumes nothing.
+use Prim.Native.Nat.{_-_, _≤_}
+use native.Mathlib.Omega.{arith}
+use lib.ListN.{length}
+use denote.Ref.{now}
+use Rattle.text.proofs.LengthLaws.{left-out, put-after}
+use borrow.Author.Needs.{needs}
+use Rattle.text.proofs.Line.word.Statement.{statement}
+use Rattle.text.proofs.Line.word.Tie as tie
+
+abbrev Inv-loop : tie.InvT-loop
+Inv-loop word start bytes₀ i₀ bytes i = (length word ≤ 8200 - start) × (i ≤ length word)
+
+abbrev μ-loop : tie.MeasureT-loop
+μ-loop word start bytes₀ i₀ bytes i = length word - i
+
+room-after-requires : tie.Need-room-after-requires Inv-loop μ-loop
+room-after-requires c κs = search needs
+
+returns : tie.Need-returns Inv-loop μ-loop
+returns c =
+    let a = c .before .before .before .args in
+    (left-out (a .self .len) (length (now (a .word))) (omega arith), omega arith)
+
+loop-holds : tie.Need-loop-holds Inv-loop μ-loop
+loop-holds c = search needs
+
+shared-slice-read-bytes : tie.Need-shared-slice-read-bytes Inv-loop μ-loop
+shared-slice-read-bytes c = search needs
+
+add-bytes : tie.Need-add-bytes Inv-loop μ-loop
+add-bytes c = search needs
+
+array-write-bytes : tie.Need-array-write-bytes Inv-loop μ-loop
+array-write-bytes c = search needs
+
+add-i : tie.Need-add-i Inv-loop μ-loop
+add-i c = search needs
+
+loop-less : tie.Need-loop-less Inv-loop μ-loop
+loop-less c = search needs
+
+loop-again : tie.Need-loop-again Inv-loop μ-loop
+loop-again c = search needs
+
+add-t6 : tie.Need-add-t6 Inv-loop μ-loop
+add-t6 c = search needs
+
+returns-2 : tie.Need-returns-2 Inv-loop μ-loop
+returns-2 c =
+    let a = c .before .before .before .before .before .before .args in
+    (put-after (a .self .len) (length (now (a .word))) _ (c .before .loop .inv .0) (omega arith), omega arith)
+
+pub word-spec : {M : Type 1} → statement M
+word-spec =
+    tie.close
+    (tie.spec
+    Inv-loop
+    μ-loop
+    room-after-requires
+    returns
+    loop-holds
+    shared-slice-read-bytes
+    add-bytes
+    array-write-bytes
+    add-i
+    loop-less
+    loop-again
+    add-t6
+    returns-2)

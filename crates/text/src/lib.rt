@@ -1,0 +1,123 @@
+// A line of text that is made piece by piece and written at once. A piece that does not fit is left out.
+// No rule of this crate comes from the Rust: it serves the programs that replay recorded answers.
+ghost use mathlib.Core.Path.{_≡_};
+ghost use Prim.Native.Nat.{_*_, _-_, _≤_, _<_};
+ghost use lib.ListN.{length};
+ghost use Rattle.text.specs.Lengths.{lengthWith};
+
+// A line so far: the first `len` of the bytes.
+pub struct Line {
+    pub bytes: [u8; ROOM],
+    pub len: usize,
+}
+
+// The longest line: a word of seven bytes, 4,096 bytes in hex, and LF.
+const ROOM: usize = 8200;
+
+// The line with nothing on it.
+pub fn empty() -> Line
+    ensures { λ r. ⌜ r .len ≡ 0 ⌝ }
+{
+    Line {
+        bytes: [0u8; ROOM],
+        len: 0,
+    }
+}
+
+// How many bytes more a line of a length has room for.
+fn room_after(len: usize) -> usize
+    ensures { λ r. ⌜ r ≡ 8200 - len ⌝ }
+{
+    if ROOM < len {
+        return 0;
+    }
+    ROOM - len
+}
+
+// The hex digit of a number below 16.
+fn hex_digit(n: u8) -> u8
+    requires { ⌜ n < 16 ⌝ }
+{
+    if n < 10 {
+        return b'0' + n;
+    }
+    b'a' + (n - 10)
+}
+
+impl Line {
+    // The line with a word after it. The bound follows from the equation, and spares a caller the proof of it.
+    pub fn word(self, word: &[u8]) -> Line
+        ensures { λ r. ⌜ r .len ≡ lengthWith (self .len) (length (now (word .entry))) ⌝ }
+        ensures { λ r. ⌜ self .len ≤ r .len ⌝ }
+    {
+        let start = self.len;
+        if room_after(start) < word.len() {
+            return self;
+        }
+        let mut bytes = self.bytes;
+        let mut i = 0;
+        while i < word.len() {
+            bytes[start + i] = word[i];
+            i += 1;
+        }
+        Line {
+            bytes,
+            len: start + i,
+        }
+    }
+
+    // The line with two hex digits after it for each byte of a part.
+    pub fn hex_bytes(self, part: &[u8]) -> Line
+        ensures { λ r. ⌜ r .len ≡ lengthWith (self .len) (2 * length (now (part .entry))) ⌝ }
+    {
+        let start = self.len;
+        if room_after(start) / 2 < part.len() {
+            return self;
+        }
+        let mut bytes = self.bytes;
+        let mut i = 0;
+        while i < part.len() {
+            let byte = part[i];
+            bytes[start + 2 * i] = hex_digit(byte / 16);
+            bytes[start + 2 * i + 1] = hex_digit(byte % 16);
+            i += 1;
+        }
+        Line {
+            bytes,
+            len: start + 2 * i,
+        }
+    }
+
+    // The line with a number's hex digits after it, and zeros before them up to `width` digits.
+    pub fn hex(self, n: u64, width: usize) -> Line
+        ensures { λ r. ⌜ self .len ≤ r .len ⌝ }
+    {
+        let mut digits = [0u8; 16];
+        let count = io::hex(n, width, &mut digits);
+        self.word(&digits[..count])
+    }
+
+    // The line with a number's decimal digits after it.
+    pub fn decimal(self, n: u64) -> Line
+        ensures { λ r. ⌜ self .len ≤ r .len ⌝ }
+    {
+        let mut digits = [0u8; 20];
+        let count = io::decimal(n, &mut digits);
+        self.word(&digits[..count])
+    }
+
+    // Writes the line and LF.
+    pub fn end(self) {
+        let line = self.word(b"\n");
+        let bytes = line.bytes;
+        write_first(bytes, line.len);
+    }
+}
+
+// Writes the first `len` of the bytes.
+fn write_first(bytes: [u8; ROOM], len: usize) {
+    if ROOM < len {
+        return;
+    }
+    io::write_all(1, &bytes[..len]);
+}
