@@ -1,8 +1,10 @@
-//! Tells the linker where the static library lies: in the folder that LIBPLAYER_FOLDER names.
+//! Tells the linker where the static libraries lie: in the folder that LIBRARIES_FOLDER names.
 
 fn main() {
-    println!("cargo::rerun-if-env-changed=LIBPLAYER_FOLDER");
-    let folder = std::env::var("LIBPLAYER_FOLDER").expect("compare/run sets LIBPLAYER_FOLDER");
-    println!("cargo::rerun-if-changed={folder}/libplayer.a");
+    println!("cargo::rerun-if-env-changed=LIBRARIES_FOLDER");
+    let folder = std::env::var("LIBRARIES_FOLDER").expect("compare/run sets LIBRARIES_FOLDER");
+    for library in ["player", "usm"] {
+        println!("cargo::rerun-if-changed={folder}/lib{library}.a");
+    }
     println!("cargo::rustc-link-search=native={folder}");
 }

@@ -1,4 +1,6 @@
-//! Keys and payload bytes, the same in every run.
+//! Keys, bytes and choices, the same in every run.
+
+use std::ops::Range;
 
 /// SplitMix64: a generator whose whole state is one number.
 pub struct Random(pub u64);
@@ -23,6 +25,19 @@ impl Random {
         let mut bytes = vec![0; length];
         self.fill(&mut bytes);
         bytes
+    }
+
+    /// A number in a range that is not empty.
+    pub fn within(&mut self, range: Range<u64>) -> u64 {
+        range.start + self.number() % (range.end - range.start)
+    }
+
+    pub fn one_in(&mut self, turns: u64) -> bool {
+        self.within(0..turns) == 0
+    }
+
+    pub fn pick<T: Copy>(&mut self, from: &[T]) -> T {
+        from[self.within(0..from.len() as u64) as usize]
     }
 }
 

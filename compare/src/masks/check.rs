@@ -2,9 +2,9 @@
 
 use std::fmt;
 
-use crate::arena::{Arena, OFFSETS, first_difference};
+use super::arena::{Arena, OFFSETS, first_difference};
+use super::{exports, original};
 use crate::random::{Random, keys};
-use crate::{exports, original};
 
 /// Acts on a payload in place and gives what the call answers, 0 where it answers nothing.
 type Act = fn(u64, &mut [u8]) -> usize;

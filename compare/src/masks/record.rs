@@ -1,11 +1,11 @@
 //! Writes the original's answers for the gate's replay: the keys as its input, the answers as its output.
 //! Nothing of ours is called here.
 
-use std::fmt::Write;
 use std::path::Path;
 use std::{fs, io};
 
-use crate::original;
+use super::original;
+use crate::hex::hex;
 use crate::random::{Random, keys};
 
 /// Around every boundary of the rules, and one longer payload.
@@ -69,12 +69,4 @@ fn payload(length: usize) -> Vec<u8> {
 /// From 0, for each byte b: h becomes h * 65599 + b + 1 modulo 4294967291.
 fn digest(bytes: &[u8]) -> u64 {
     bytes.iter().fold(0, |h, &b| (h * 65_599 + u64::from(b) + 1) % 4_294_967_291)
-}
-
-fn hex(bytes: &[u8]) -> String {
-    let mut digits = String::new();
-    for byte in bytes {
-        write!(digits, "{byte:02x}").expect("a string takes what is written");
-    }
-    digits
 }

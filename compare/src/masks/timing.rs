@@ -1,10 +1,10 @@
 //! The exports and the original under one clock, in turns, beside a plain copy of as many bytes.
 
 use std::hint::black_box;
-use std::time::Instant;
 
+use super::{exports, original};
+use crate::clock::{clock, median};
 use crate::random::Random;
-use crate::{exports, original};
 
 const KEY: u64 = 0x0012_3456_789A_BCDE;
 
@@ -99,21 +99,6 @@ fn sample(who: Who, timed: &Timed, calls: u32, payload: &mut [u8], spare: &mut [
         Who::Rust => clock(calls, || black_box(timed.rust)(black_box(KEY), black_box(&mut *payload))),
         Who::Copy => clock(calls, || black_box(&mut *spare).copy_from_slice(black_box(&*payload))),
     }
-}
-
-/// Nanoseconds for one call, after a first one that is not counted.
-fn clock(calls: u32, mut call: impl FnMut()) -> f64 {
-    call();
-    let start = Instant::now();
-    for _ in 0..calls {
-        call();
-    }
-    start.elapsed().as_nanos() as f64 / f64::from(calls)
-}
-
-fn median(mut samples: Vec<f64>) -> f64 {
-    samples.sort_by(f64::total_cmp);
-    samples[samples.len() / 2]
 }
 
 fn print_ratios(all: &[Medians]) {

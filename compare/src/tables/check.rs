@@ -1,0 +1,87 @@
+//! The check of tables: hand-made ones, every type with every storage, random ones, damaged copies.
+
+use std::fmt;
+
+use super::case::Case;
+use super::compare::compare;
+use super::exports::{SHORT, both_with_null};
+use super::shrink::shrink;
+use super::tally::Tally;
+use super::{damage, generate, original, samples};
+use crate::hex::hex;
+use crate::random::Random;
+
+const RANDOM_TABLES: u64 = 200_000;
+const DAMAGED_TABLES: u64 = 200;
+const PROGRESS: u64 = 50_000;
+
+/// The first table that differs, made small.
+pub struct Disagreement {
+    what: String,
+    smallest: Option<Case>,
+}
+
+impl fmt::Display for Disagreement {
+    fn fmt(&self, f: &mut fmt::Formatter) -> fmt::Result {
+        write!(f, "{}", self.what)?;
+        match &self.smallest {
+            Some(case) => write!(f, "\nplace {}, slice {}", case.place, hex(case.slice())),
+            None => Ok(()),
+        }
+    }
+}
+
+/// Every comparison; gives the counts, or the first that differs.
+pub fn run() -> Result<Tally, Disagreement> {
+    original::silence_panics();
+    let mut tally = Tally::default();
+    let mut random = Random(5);
+    for sample in samples::all() {
+        agree(&sample, &mut tally)?;
+        agree_damaged(&sample, &mut tally, &mut random)?;
+    }
+    for type_byte in 0..=u8::MAX {
+        for rows in [0, 1, 3] {
+            agree(&generate::with_column(type_byte, rows, &mut random), &mut tally)?;
+        }
+    }
+    for _ in 0..RANDOM_TABLES {
+        agree(&generate::any(&mut random), &mut tally)?;
+    }
+    for _ in 0..DAMAGED_TABLES {
+        agree_damaged(&generate::small(&mut random), &mut tally, &mut random)?;
+    }
+    null_is_allowed()?;
+    Ok(tally)
+}
+
+/// NULL with length 0 is a slice like any other: without a report the answer is 255, with one it is refusal 1.
+fn null_is_allowed() -> Result<(), Disagreement> {
+    match both_with_null(0) {
+        ([SHORT, SHORT], [1, 1]) => Ok(()),
+        answers => Err(Disagreement { what: format!("at NULL the answers are {answers:?}"), smallest: None }),
+    }
+}
+
+fn agree_damaged(case: &Case, tally: &mut Tally, random: &mut Random) -> Result<(), Disagreement> {
+    damage::copies(case, random).iter().try_for_each(|copy| agree(copy, tally))
+}
+
+fn agree(case: &Case, tally: &mut Tally) -> Result<(), Disagreement> {
+    match compare(case) {
+        Ok(seen) => {
+            tally.add(seen);
+            if tally.tables().is_multiple_of(PROGRESS) {
+                println!("{} tables agreed so far", tally.tables());
+            }
+            Ok(())
+        }
+        Err(_) => Err(disagreement(case)),
+    }
+}
+
+fn disagreement(case: &Case) -> Disagreement {
+    let smallest = shrink(case, |case| compare(case).is_err());
+    let what = compare(&smallest).err().unwrap_or_default();
+    Disagreement { what, smallest: Some(smallest) }
+}

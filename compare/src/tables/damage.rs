@@ -1,0 +1,46 @@
+//! Damaged copies of a table: each byte changed, every cut, each field of the header at its edges.
+
+use super::case::Case;
+use super::header::{FIELDS, Field};
+use crate::random::Random;
+
+/// Every damaged copy of a case.
+pub fn copies(case: &Case, random: &mut Random) -> Vec<Case> {
+    let mut copies = Vec::new();
+    copies.extend((case.place..case.length).flat_map(|at| changed_bytes(case, at, random)));
+    copies.extend((0..case.length).map(|length| cut(case, length)));
+    if case.has_header() {
+        copies.extend(FIELDS.into_iter().flat_map(|field| edges(case, field)));
+    }
+    copies
+}
+
+/// One byte at its edges, with its first and last bit turned, and as any.
+fn changed_bytes(case: &Case, at: usize, random: &mut Random) -> Vec<Case> {
+    let byte = case.whole[at];
+    let others = [0, 0xFF, byte ^ 1, byte ^ 0x80, random.number() as u8];
+    others.into_iter().filter(|&other| other != byte).map(|other| changed_byte(case, at, other)).collect()
+}
+
+pub fn changed_byte(case: &Case, at: usize, byte: u8) -> Case {
+    let mut copy = case.clone();
+    copy.whole[at] = byte;
+    copy
+}
+
+/// The slice ends here; what was cut off still stands after it, for whoever reads too far.
+pub fn cut(case: &Case, length: usize) -> Case {
+    Case { length, ..case.clone() }
+}
+
+fn edges(case: &Case, field: Field) -> Vec<Case> {
+    let claimed = field.get(case.table());
+    let edges = [0, 1, 23, 24, 25, field.max(), claimed.wrapping_sub(1), claimed.wrapping_add(1)];
+    edges.into_iter().map(|number| with_field(case, field, number)).collect()
+}
+
+pub fn with_field(case: &Case, field: Field, number: u32) -> Case {
+    let mut copy = case.clone();
+    field.set(copy.table_mut(), number);
+    copy
+}
