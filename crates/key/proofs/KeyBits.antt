@@ -10,9 +10,8 @@ use lib.Arith.{mod-mul}
 use lib.Bits.{bitXor, xor-lt}
 use Rattle.laws.specs.Lists.{at}
 use Rattle.laws.proofs.XorLaws.{xor-back}
-use Rattle.key.specs.KeyTable.{plus, minus, keyByte, tableBy, tableT, keysOf, tableV, tableA}
+use Rattle.key.specs.KeyTable.{plus, minus, keyByte, tableBy, tableT, keysOf}
 use Rattle.key.specs.CountingBits.{AgreeWhereItCounts}
-use Rattle.key.specs.declared.Keys.{Keys}
 
 -- the bytes that T is made of
 record Bytes (k k′ : ℕ) : Type 0 where

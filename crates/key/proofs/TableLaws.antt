@@ -1,8 +1,8 @@
 -- The key table's sums and differences, put into its list. `xor` is any operation, so that nothing is computed of it. Assumes nothing.
 use Prim.Native.Nat.{ℕ, _%_}
 use native.Mathlib.Omega.{arith}
-use mathlib.Core.Path.{_≡_, refl}
-use mathlib.Core.List.{List, [], _∷_}
+use mathlib.Core.Path.{_≡_}
+use mathlib.Core.List.{[], _∷_}
 use Rattle.key.specs.KeyTable.{plus, minus, keyByte, tableBy}
 
 pub key-low : (key : ℕ) → key % 256 ≡ keyByte key 0

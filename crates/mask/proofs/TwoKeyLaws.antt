@@ -8,7 +8,7 @@ use Prim.Native.Nat.{ℕ, zero, suc, _+_, _*_, _-_, _/_, _%_, _≤_, _<_}
 use native.Mathlib.Omega.{arith}
 use lib.ListN.{length}
 use lib.Bits.{bitXor, xor-self, xor-zero-r}
-use lib.Dec.{ltb, eqb}
+use lib.Dec.{eqb}
 use borrow.Author.Tests.{lt-ltb, le-ltb, eq-eqb, ne-eqb}
 use Rattle.laws.specs.Lists.{at}
 use Rattle.laws.proofs.Side.{side}
@@ -16,8 +16,8 @@ use Rattle.laws.proofs.TabLaws.{tab-at}
 use Rattle.laws.proofs.XorLaws.{xor-four, xor-shared}
 use Rattle.key.specs.declared.Keys.{Keys}
 use Rattle.key.specs.KeyTable.{tableT, tableV, letters, tableAAt, tableA, keysOf}
-use Rattle.mask.specs.Audio.{audioAt, maskedAudio}
-use Rattle.mask.specs.Video.{tail, clear, clearTail, headMask, xoredHead, xoredHeadAt, unmaskedVideo}
+use Rattle.mask.specs.Audio.{maskedAudio}
+use Rattle.mask.specs.Video.{tail, clear, clearTail, headMask, xoredHeadAt, unmaskedVideo}
 use Rattle.mask.specs.Positions.{difference, headRowDiffers, tailRowDiffers, videoDiffers, audioDiffers}
 use Rattle.mask.proofs.AudioLaws.{audio-before, audio-after}
 use Rattle.mask.proofs.TailLaws.{tail-before}

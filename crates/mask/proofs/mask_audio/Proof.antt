@@ -1,5 +1,5 @@
 -- `mask::mask_audio` meets its contract: after r rows the bytes below 0x140 + 0x20 r are masked, and the rest are as they were. Assumes nothing.
-use Prim.Native.Nat.{ℕ, _+_, _*_, _≤_, _-_, _/_}
+use Prim.Native.Nat.{_+_, _*_, _≤_, _-_, _/_}
 use mathlib.Core.Path.{_≡_, refl}
 use native.Mathlib.Omega.{arith}
 use borrow.Author.Needs.{needs}

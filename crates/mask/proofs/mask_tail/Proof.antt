@@ -1,7 +1,7 @@
 -- `mask::mask_tail` meets its contract: after r rows the bytes below 0x140 + 0x20 r are stored, and `mask` is what the next row is XORed with.
 -- Assumes nothing.
 use Prim.Native.Nat.{ℕ, _+_, _*_, _≤_, _<_, _-_, _/_}
-use mathlib.Core.Path.{_≡_, _∙_, refl}
+use mathlib.Core.Path.{_≡_, refl}
 use native.Mathlib.Omega.{arith}
 use borrow.Author.Needs.{needs}
 use lib.ListN.{length, length-take, length-drop}
@@ -9,7 +9,7 @@ use Rattle.laws.specs.Lists.{at}
 use Rattle.laws.proofs.UptoLaws.{Upto, upto-start, upto-to, upto-end}
 use Rattle.mask.specs.Video.{tail, stored, withTailAt, withTail}
 use Rattle.mask.proofs.RowLaws.{upto-xored}
-use Rattle.mask.proofs.TailLaws.{prior, prior-start, prior-next, stored-row, tail-before, tail-in, tail-row}
+use Rattle.mask.proofs.TailLaws.{prior, prior-start, prior-next, stored-row, tail-before, tail-row}
 use Rattle.mask.proofs.mask_tail.Statement.{statement}
 use Rattle.mask.proofs.mask_tail.Tie as tie
 

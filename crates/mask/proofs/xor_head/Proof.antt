@@ -1,6 +1,6 @@
 -- `mask::xor_head` meets its contract: after r rows the bytes below 0x40 + 0x20 r are done, and `mask` is T XORed with the tail's rows before row r.
 -- Assumes nothing.
-use Prim.Native.Nat.{ℕ, _+_, _*_, _≤_, _<_, _-_, _/_}
+use Prim.Native.Nat.{ℕ, _+_, _*_, _≤_, _<_, _-_}
 use mathlib.Core.Path.{_≡_, _∙_}
 use mathlib.Core.Logic.{⊎-elim}
 use native.Mathlib.Omega.{arith}

@@ -1,5 +1,5 @@
 -- `mask::xor_in` meets its contract: below `lane` the bytes are XORed, and the rest are as they were. Assumes nothing.
-use Prim.Native.Nat.{ℕ, _≤_, _-_}
+use Prim.Native.Nat.{_≤_, _-_}
 use mathlib.Core.Path.{_≡_, refl}
 use borrow.Author.Needs.{needs}
 use lib.ListN.{length}
