@@ -34,7 +34,7 @@ pub enum Ending {
 }
 
 // Place p of a table is body byte p - 24.
-const BODY: usize = 24;
+pub const BODY: usize = 24;
 
 // The bytes that a value of each type takes; 0 marks an unknown type.
 const WIDTHS: [u8; 16] = [1, 1, 2, 2, 4, 4, 8, 0, 4, 0, 4, 8, 0, 0, 0, 0];

@@ -24,8 +24,8 @@ pub enum ColumnAnswer {
     NoColumn(Cause),
 }
 
-// A record's type byte and name offset.
-const RECORD: usize = 5;
+// The bytes of a record's type and name offset; a constant follows them.
+pub const RECORD: usize = 5;
 
 // Whether a type byte says that the column has a constant: its high nibble is 3 or 7.
 pub fn is_constant(tag: usize) -> bool

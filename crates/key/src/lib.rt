@@ -120,11 +120,13 @@ pub fn key_table(key: u64) -> Keys
     Keys { t, v, a }
 }
 
-// What bits 36 and 40 stand for, and how many values 16 bits have.
+// What bit 36 stands for.
 const BIT_36: u64 = 0x10_0000_0000;
 
+// What bit 40 stands for.
 const BIT_40: u64 = 0x100_0000_0000;
 
+// How many values 16 bits have.
 const SIXTEEN_BITS: u64 = 0x1_0000;
 
 // The bits of a key that count: bits 36 to 39 and 56 to 63 are cleared.

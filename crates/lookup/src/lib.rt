@@ -12,7 +12,6 @@ ghost use Rattle.lookup.specs.Lookups.{constantOr, columnCell, markedCel
 use cell::Cell;
 use cell::CellAnswer;
 use column::ColumnAnswer;
-use refusal::Cause;
 use refusal::Refusal;
 use table::TableAnswer;
 
@@ -33,14 +32,6 @@ pub enum Lookup {
     Holds(Cell),
     NoTable(Refusal),
 }
-
-// Place p of a table is body byte p - 24; the body starts after the 32 header bytes.
-const BODY: usize = 24;
-
-const HEADER: usize = 32;
-
-// A column record's type byte and name offset.
-const RECORD: usize = 5;
 
 // Whether a name stands at a body byte, with a zero byte after it and none in it.
 fn spelled(body: &[u8], at: usize, name: &[u8]) -> bool
@@ -67,10 +58,10 @@ fn has_name(body: &[u8], entry: usize, strings: u32, name: &[u8]) -> bool
     ensures { λ r. ⌜ r ≡ spells (now (body .entry)) (strings + be32 (now (body .entry)) (entry + 1) - 24) (now (name .entry)) ⌝ }
 {
     let place = (strings as usize) + word::read32(body, entry + 1);
-    if place < BODY {
+    if place < cell::BODY {
         return spelled(body, 0, name);
     }
-    spelled(body, place - BODY, name)
+    spelled(body, place - cell::BODY, name)
 }
 
 // The bytes that a column's constant takes in its record.
@@ -117,7 +108,7 @@ fn last_named(body: &[u8], columns: usize, strings: u32, name: &[u8]) -> Search
         let named = has_name(body, entry, strings, name);
         let better = mark_if(named, entry, offset, best);
         best = better;
-        entry = entry + RECORD + in_record(tag);
+        entry = entry + column::RECORD + in_record(tag);
         offset = offset + in_row(tag);
         left -= 1;
     }
@@ -197,10 +188,10 @@ fn marked_cell(body: &[u8], mark: Mark, at: usize, strings: u32, blobs: u32) -> 
 fn rows_at(body: &[u8], from: usize) -> usize
     ensures { λ r. ⌜ r ≡ rowsAt (now (body .entry)) from ⌝ }
 {
-    if from < BODY {
+    if from < cell::BODY {
         return body.len();
     }
-    from - BODY
+    from - cell::BODY
 }
 
 // The cell of the last column of the name, in a row of a body.
@@ -232,7 +223,15 @@ fn table_cell(t: &[u8], name: &[u8], columns: usize, row: usize) -> CellAnswer
     let from = word::read16(t, 10);
     let strings = word::read32(t, 12) as u32;
     let blobs = word::read32(t, 16) as u32;
-    body_cell(&t[HEADER..end], name, columns, row, from, strings, blobs)
+    body_cell(
+        &t[table::HEADER..end],
+        name,
+        columns,
+        row,
+        from,
+        strings,
+        blobs,
+    )
 }
 
 // A cell of the body as a cell of the slice in which the body starts at byte `by`. An empty data cell starts at 0.
@@ -266,7 +265,7 @@ fn placed_cell(place: usize, answer: CellAnswer) -> Lookup
     ensures { λ r. ⌜ r ≡ placed place answer ⌝ }
 {
     match answer {
-        CellAnswer::Got(cell) => Lookup::Holds(shifted_cell(cell, place + HEADER)),
+        CellAnswer::Got(cell) => Lookup::Holds(shifted_cell(cell, place + table::HEADER)),
         CellAnswer::Refused(cause) => Lookup::NoTable(Refusal { cause, place }),
     }
 }

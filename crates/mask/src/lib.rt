@@ -9,13 +9,16 @@ ghost use Rattle.mask.specs.Audio.{maskedAudio};
 ghost use Rattle.mask.specs.Video.{clearTail, xoredHead, storedTail, unmaskedVideo, maskedVideo};
 use key::Keys;
 
-// Where the head and the tail of a payload start, how long a row is, and what the shortest masked video payload has.
+// Where the head of a video payload starts; bytes below stay.
 const HEAD: usize = 0x40;
 
+// Where the tail starts, and what is masked of audio.
 const TAIL: usize = 0x140;
 
+// The bytes of a row.
 const ROW: usize = 0x20;
 
+// A shorter video payload is not masked.
 const SHORTEST_VIDEO: usize = 0x240;
 
 // XORs each byte with the row's byte in its lane.

@@ -9,9 +9,10 @@ mod fields;
 
 use fields::Row;
 
-// The longest table and the longest name of the list.
+// The longest table of the list.
 const MOST_TABLE: usize = 4096;
 
+// The longest name of the list.
 const MOST_NAME: usize = 256;
 
 // Writes the answer on a query by the name's hex digits and the row.

@@ -29,17 +29,14 @@ pub enum TableAnswer {
     NoTable(Refusal),
 }
 
-// Place p of a table is body byte p - 24; the body starts after the 32 header bytes.
-const BODY: usize = 24;
+// The body starts after the header bytes.
+pub const HEADER: usize = 32;
 
-const HEADER: usize = 32;
-
+// A table with more columns is refused.
 const MOST_COLUMNS: usize = 64;
 
+// A table with more rows is refused.
 const MOST_ROWS: usize = 256;
-
-// A column record's type byte and name offset.
-const RECORD: usize = 5;
 
 // `@UTF`.
 const SIGNATURE: usize = 0x40555446;
@@ -63,10 +60,10 @@ fn has_end(body: &[u8], ends: usize, place: usize) -> bool
     requires { ⌜ ends ≡ zerosEnd (now body) ⌝ }
     ensures { λ r. ⌜ r ≡ isAt (endOf (now (body .entry)) place) ⌝ }
 {
-    if place < BODY {
+    if place < cell::BODY {
         return false;
     }
-    place - BODY < ends
+    place - cell::BODY < ends
 }
 
 // The check of a text: on to `next`, or why not.
@@ -140,12 +137,12 @@ fn check_column(body: &[u8], ends: usize, at: usize, strings: u32, blobs: u32) -
     requires { ⌜ ends ≡ zerosEnd (now body) ⌝ }
     ensures { λ r. ⌜ r ≡ afterColumn (λ n. Walk.Done n) (columnAt (now (body .entry)) at strings blobs) ⌝ }
 {
-    if word::left_from(body, at) < RECORD {
+    if word::left_from(body, at) < column::RECORD {
         return Walk::Stopped(Cause::RanOut);
     }
     let tag = word::read8(body, at);
     let name = (strings as usize) + word::read32(body, at + 1);
-    let after = at + RECORD;
+    let after = at + column::RECORD;
     if has_end(body, ends, name) {
         if column::is_constant(tag) {
             return check_cell(body, ends, (tag % 16) as u8, after, strings, blobs);
@@ -189,11 +186,11 @@ fn walk_row(body: &[u8], ends: usize, columns: usize, from: usize, strings: u32,
         let kind = (tag % 16) as u8;
         let width = cell::width_of(kind);
         if column::is_constant(tag) {
-            entry = entry + RECORD + width;
+            entry = entry + column::RECORD + width;
         } else {
             match check_cell(body, ends, kind, at, strings, blobs) {
                 Walk::Done(next) => {
-                    entry = entry + RECORD;
+                    entry = entry + column::RECORD;
                     at = next;
                 }
                 Walk::Stopped(cause) => {
@@ -250,10 +247,10 @@ fn walk_table(
     let ends = zeros_end(body);
     match walk_columns(body, ends, columns, strings, blobs) {
         Walk::Done(_) => {
-            if from < BODY {
+            if from < cell::BODY {
                 walk_rows(body, ends, columns, rows, body.len(), strings, blobs)
             } else {
-                walk_rows(body, ends, columns, rows, from - BODY, strings, blobs)
+                walk_rows(body, ends, columns, rows, from - cell::BODY, strings, blobs)
             }
         }
         Walk::Stopped(cause) => Walk::Stopped(cause),
@@ -281,7 +278,7 @@ fn read_from(t: &[u8], place: usize) -> TableAnswer
         return refused(Cause::RanOut, place);
     }
     let size = word::read32(t, 4);
-    if size < BODY {
+    if size < cell::BODY {
         return refused(Cause::TooSmall, place);
     }
     let end = size + 8;

@@ -11,11 +11,13 @@ use lookup::Lookup;
 use refusal::Cause;
 use table::TableAnswer;
 
-// The words of a table's report and of a cell's, and what is given where a report has fewer.
+// The words of a table's report.
 const TABLE_WORDS: usize = 5;
 
+// The words of a cell's report.
 const CELL_WORDS: usize = 6;
 
+// What is given where a report has fewer words.
 const TOO_SHORT: u8 = 255;
 
 // Puts the first `count` words into a report. Words past them stay.
