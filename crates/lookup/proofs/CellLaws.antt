@@ -82,7 +82,9 @@ rows-bound b from = go (ltb from 24)
 pub as-read : (t name : List ℕ) (columns row size from s d : ℕ) → size ≡ be32 t 4 → from ≡ be16 t 10 → s ≡ be32 t 12 → d ≡ be32 t 16
     → bodyCell (take (size + 8 - 32) (drop 32 t)) name columns row from s d ≡ tableCell t name columns row
 unfolding tableCell
-as-read t name columns row size from s d e f g h = rw (e, f, g, h)
+as-read t name columns row size from s d e f g h =
+    let body : size + 8 - 32 ≡ size - 24 = omega arith in
+    rw (body, e, f, g, h)
 
 -- a part within the body ends before the body does
 inside-end : (b : List ℕ) (c : Cell) → Inside b c → endOfPart c ≤ length b

@@ -48,7 +48,7 @@ module _ (bytes : List ℕ) (place : ℕ) (name : List ℕ) (row : ℕ) where
     pub part-end : place + 32 + endOfAnswer (tableCell t name columns row) ≤ length bytes
     part-end =
         omega
-        (arith, table-cell-end t name columns row, header, length-take (be32 t 4 + 8 - 32) (drop 32 t), length-drop 32 t, length-take (length bytes - place) (drop place bytes), length-drop place bytes, within)
+        (arith, table-cell-end t name columns row, header, length-take (be32 t 4 - 24) (drop 32 t), length-drop 32 t, length-take (length bytes - place) (drop place bytes), length-drop place bytes, within)
 
     pub in-row-read : row < rows → placed place (tableCell t name columns row) ≡ cellOf bytes place name row
     in-row-read h = ap (λ (l : List ℕ). placed place (tableCell l name columns row)) t-is ∙ in-row h

@@ -2,13 +2,13 @@
 -- b is the table's body, s its string offset.
 use Prim.Native.Nat.{ℕ, zero, suc, _+_, _-_, _%_}
 use mathlib.Core.List.{List}
-use mathlib.Core.Bool.{Bool, true, false, cond}
+use mathlib.Core.Bool.{Bool, cond}
 use Rattle.laws.specs.Lists.{at}
 use Rattle.word.specs.Numbers.{be32}
 use Rattle.cell.specs.Types.{widthOf}
 use Rattle.column.specs.Columns.{isConstant}
 use Rattle.lookup.specs.declared.Mark.{Mark}
-use Rattle.lookup.specs.declared.Mark.the-variants.{Nowhere, Marked}
+use Rattle.lookup.specs.declared.Mark.the-variants.{Marked}
 use Rattle.lookup.specs.declared.Search.{Search}
 use Rattle.lookup.specs.Names.{spells}
 
@@ -19,18 +19,9 @@ inRecord tag = cond (isConstant tag) (widthOf (tag % 16)) 0
 abbrev pub inRow : ℕ → ℕ
 inRow tag = cond (isConstant tag) 0 (widthOf (tag % 16))
 
--- "the last counts": what is found later takes the place of what was found before
-abbrev pub later : Mark → Mark → Mark
-later before Nowhere = before
-later before (Marked p q) = Marked p q
-
--- a column of the name is found, another is not
-abbrev pub markOf : Bool → ℕ → ℕ → Mark
-markOf true p q = Marked p q
-markOf false p q = Nowhere
-
+-- "the last counts": a column of the name takes the place of the one marked before
 abbrev pub markIf : Bool → ℕ → ℕ → Mark → Mark
-markIf named p q before = later before (markOf named p q)
+markIf named p q before = cond named (Marked p q) before
 
 -- n columns whose records stand from body byte p on and whose cells from byte q of a row on: the last of the name, and the bytes of a row
 unfoldable pub searchFrom : List ℕ → ℕ → List ℕ → ℕ → ℕ → ℕ → Mark → Search

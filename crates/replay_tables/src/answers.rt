@@ -1,11 +1,9 @@
 // The lines that are written: what our functions answer on a table, and on a name and a row of it.
 use cell::Cell;
 use lookup::Lookup;
+use refusal::Cause;
 use refusal::Refusal;
 use table::TableAnswer;
-
-// The refusal that names a type.
-const UNKNOWN_TYPE: u8 = 8;
 
 // The least number of 64 bits that stands for a negative one.
 const NEGATIVE: u64 = 0x8000_0000_0000_0000;
@@ -20,18 +18,16 @@ fn write_number(word: &[u8], n: u64) {
     text::empty().word(word).decimal(n).end();
 }
 
-// Writes a refusal's number, and the type beside number 8.
+// Writes a refusal's number, and the type where it is one that is unknown.
 fn write_refusal(refusal: Refusal) {
     let cause = refusal.cause;
-    let number = refusal::number_of(cause);
-    let line = text::empty().word(b"refused ").decimal(wide(number));
-    if number == UNKNOWN_TYPE {
-        line.word(b" type ")
-            .decimal(wide(refusal::type_of(cause)))
-            .end();
-        return;
+    let line = text::empty()
+        .word(b"refused ")
+        .decimal(wide(refusal::number_of(cause)));
+    match cause {
+        Cause::UnknownType(kind) => line.word(b" type ").decimal(wide(kind)).end(),
+        _ => line.end(),
     }
-    line.end();
 }
 
 // Writes a signed number by its 64 bits.

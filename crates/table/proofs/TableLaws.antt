@@ -1,7 +1,7 @@
 -- The cases of a table, one for each return of the code, in the order of the refusals. Assumes nothing.
 use mathlib.Core.Path.{_≡_, refl}
 use mathlib.Core.List.{List}
-use mathlib.Core.Bool.{Bool, true, false, not}
+use mathlib.Core.Bool.{Bool, true, false, not, cond}
 use Prim.Native.Nat.{ℕ, _+_, _-_, _≤_, _<_}
 use native.Mathlib.Omega.{arith}
 use lib.ListN.{length, take, drop, length-drop}
@@ -16,7 +16,7 @@ use Rattle.table.specs.declared.Walk.the-variants.{Done, Stopped}
 use Rattle.table.specs.declared.TableAnswer.{TableAnswer}
 use Rattle.table.specs.declared.TableAnswer.the-variants.{Table, NoTable}
 use Rattle.table.specs.Walks.{walkOf}
-use Rattle.table.specs.Tables.{refusedAt, refuse, tableTo, bodyOf, tableOf}
+use Rattle.table.specs.Tables.{refusedAt, tableTo, bodyOf, tableOf}
 
 module _ (place : ℕ) (t : List ℕ) where
   pub short : length t < 4 → refusedAt place cause.RanOut ≡ tableOf place t
@@ -60,11 +60,13 @@ module _ (place : ℕ) (t : List ℕ) where
             -- the walk, at the numbers as they were read
             pub walked : (size columns rows from s d : ℕ) (w : Walk) → size ≡ be32 t 4 → columns ≡ be16 t 24 → rows ≡ be32 t 28 → from ≡ be16 t 10 → s ≡ be32 t 12
                 → d ≡ be32 t 16 → columns ≤ 64 → rows ≤ 256 → w ≡ walkOf (take (size + 8 - 32) (drop 32 t)) s d columns rows from → tableTo place columns rows w ≡ tableOf place t
-            walked size columns rows from s d w e₁ e₂ e₃ e₄ e₅ e₆ hc hr f = cc (opened (rw e₂ at hc) (rw e₃ at hr))
+            walked size columns rows from s d w e₁ e₂ e₃ e₄ e₅ e₆ hc hr f =
+                let body : size + 8 - 32 ≡ size - 24 = omega arith in
+                cc (opened (rw e₂ at hc) (rw e₃ at hr))
 
 -- ---- what a table that was read is known to have
 
-unrefused : (b : Bool) (place : ℕ) (why : Cause) (c r : ℕ) (next : TableAnswer) → refuse b (refusedAt place why) next ≡ Table c r → (b ≡ false) × (next ≡ Table c r)
+unrefused : (b : Bool) (place : ℕ) (why : Cause) (c r : ℕ) (next : TableAnswer) → cond b (refusedAt place why) next ≡ Table c r → (b ≡ false) × (next ≡ Table c r)
 unrefused true place why c r next e = let z : _≡_ {A = ℕ} 0 1 = cc in absurd (omega arith)
 unrefused false place why c r next e = (refl, e)
 

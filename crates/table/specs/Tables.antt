@@ -1,7 +1,7 @@
 -- Document 01, "@UTF tables": a table, and the order of its refusals.
 use Prim.Native.Nat.{ℕ, _+_, _-_}
 use mathlib.Core.List.{List}
-use mathlib.Core.Bool.{Bool, true, false, not}
+use mathlib.Core.Bool.{not, cond}
 use lib.ListN.{length, take, drop}
 use lib.Dec.{ltb, eqb}
 use Rattle.word.specs.Numbers.{be16, be32}
@@ -17,29 +17,24 @@ use Rattle.table.specs.Walks.{walkOf}
 abbrev pub refusedAt : ℕ → Cause → TableAnswer
 refusedAt place why = NoTable (record { cause = why; place = place })
 
--- refused where the test holds, else what follows
-abbrev pub refuse : Bool → TableAnswer → TableAnswer → TableAnswer
-refuse true answer next = answer
-refuse false answer next = next
-
 abbrev pub tableTo : ℕ → ℕ → ℕ → Walk → TableAnswer
 tableTo place columns rows (Done q) = Table columns rows
 tableTo place columns rows (Stopped why) = refusedAt place why
 
 -- "The body is the next (size - 24) bytes"
 abbrev pub bodyOf : List ℕ → List ℕ
-bodyOf t = take (be32 t 4 + 8 - 32) (drop 32 t)
+bodyOf t = take (be32 t 4 - 24) (drop 32 t)
 
 -- "Order: signature (1, 3), other 28 bytes (1), size (9), body present (1), columns (10), rows (10), then each column"
 unfoldable pub tableOf : ℕ → List ℕ → TableAnswer
 tableOf place t =
-    refuse (ltb (length t) 4) (refusedAt place cause.RanOut)
-    (refuse (not (eqb (be32 t 0) 0x40555446)) (refusedAt place cause.NoTable)
-    (refuse (ltb (length t) 32) (refusedAt place cause.RanOut)
-    (refuse (ltb (be32 t 4) 24) (refusedAt place cause.TooSmall)
-    (refuse (ltb (length t) (be32 t 4 + 8)) (refusedAt place cause.RanOut)
-    (refuse (ltb 64 (be16 t 24)) (refusedAt place cause.TooMany)
-    (refuse (ltb 256 (be32 t 28)) (refusedAt place cause.TooMany)
+    cond (ltb (length t) 4) (refusedAt place cause.RanOut)
+    (cond (not (eqb (be32 t 0) 0x40555446)) (refusedAt place cause.NoTable)
+    (cond (ltb (length t) 32) (refusedAt place cause.RanOut)
+    (cond (ltb (be32 t 4) 24) (refusedAt place cause.TooSmall)
+    (cond (ltb (length t) (be32 t 4 + 8)) (refusedAt place cause.RanOut)
+    (cond (ltb 64 (be16 t 24)) (refusedAt place cause.TooMany)
+    (cond (ltb 256 (be32 t 28)) (refusedAt place cause.TooMany)
     (tableTo place (be16 t 24) (be32 t 28)
     (walkOf (bodyOf t) (be32 t 12) (be32 t 16) (be16 t 24) (be32 t 28) (be16 t 10)))))))))
 

@@ -4,6 +4,7 @@ ghost use mathlib.Core.Path.{_≡_};
 ghost use Prim.Native.Nat.{_*_, _-_, _≤_, _<_};
 ghost use lib.ListN.{length};
 ghost use Rattle.text.specs.Lengths.{lengthWith};
+use libc::STDOUT_FILENO;
 
 // A line so far: the first `len` of the bytes.
 pub struct Line {
@@ -119,5 +120,5 @@ fn write_first(bytes: [u8; ROOM], len: usize) {
     if ROOM < len {
         return;
     }
-    io::write_all(1, &bytes[..len]);
+    io::write_all(STDOUT_FILENO, &bytes[..len]);
 }
