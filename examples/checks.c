@@ -1,27 +1,17 @@
 /*
- * What usm.h says of NULL, of short buffers and of threads, tried: ends with status 0 and the line
- * "checks passed", or with 1 and the line of the check that failed.
+ * What usm.h says of NULL, of short buffers and of threads, tried on the masks: ends with status 0
+ * and the line "checks passed", or with 1 and the line of the check that failed.
  */
 #define _POSIX_C_SOURCE 200809L
+#include "check.h"
 #include "usm.h"
 
 #include <pthread.h>
 #include <stdio.h>
-#include <stdlib.h>
 #include <string.h>
 
 #define PAYLOAD_BYTES 4099
 #define ROUNDS 2000
-
-#define CHECK(fact) check((fact), #fact, __LINE__)
-
-static void check(int holds, const char *fact, int line)
-{
-    if (holds)
-        return;
-    printf("line %d fails: %s\n", line, fact);
-    exit(1);
-}
 
 static void fill(uint8_t *bytes, size_t len)
 {

@@ -7,12 +7,13 @@ use Prim.Native.Nat.{ℕ, zero, suc, _+_, _*_, _-_, _/_, _%_, _≤_, _<_}
 use native.Mathlib.Omega.{arith}
 use lib.ListN.{length}
 use lib.Bits.{bitXor}
+use borrow.Author.Tests.{lt-ltb, le-ltb}
 use Rattle.laws.specs.Lists.{at}
 use Rattle.laws.proofs.Side.{side}
 use Rattle.laws.proofs.TabLaws.{tab-length, tab-at, tab-ext}
 use Rattle.laws.proofs.XorLaws.{xor-undo}
 use Rattle.mask.specs.Audio.{audioAt, maskedAudio}
-use Rattle.mask.specs.Video.{tail, clear, stored, withTailAt, withTail, clearTail, storedTail, headMask, xoredHeadAt, xoredHead}
+use Rattle.mask.specs.Video.{tail, clear, stored, withTailAt, withTail, clearTail, storedTail, headMask, xoredHeadAt, xoredHead, unmaskedVideo}
 use Rattle.mask.proofs.AudioLaws.{audio-before, audio-after}
 use Rattle.mask.proofs.TailLaws.{tail-before, tail-in}
 use Rattle.mask.proofs.HeadLaws.{head-before, head-after, head-in}
@@ -111,6 +112,14 @@ module _ (t s : List ℕ) where
   pub head-length : length (xoredHead t s) ≡ length s
   unfolding xoredHead
   head-length = tab-length (xoredHeadAt t s) (length s)
+
+-- a payload that is unmasked keeps its length
+pub video-length : (keys : Keys) (s : List ℕ) → length (unmaskedVideo keys s) ≡ length s
+unfolding unmaskedVideo
+video-length keys s =
+    ⊎-elim (λ b. rw (lt-ltb (length s) 0x240 b))
+    (λ b. rw (le-ltb (length s) 0x240 b) (head-length (keys .t) (clearTail (keys .v) s) ∙ tail-length (clear (keys .v) s) s))
+    (side (length s) 0x240)
 
 module _ (t s : List ℕ) (long : 0x240 ≤ length s) where
   -- the tail stays, and so do the masks made of it

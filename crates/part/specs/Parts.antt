@@ -32,3 +32,8 @@ nameIn (Float x) = Fallback
 nameIn (NotANumber n) = Fallback
 nameIn (Text start len) = Part start len
 nameIn (Data start len) = Part start len
+
+-- "the name as a part of the container or of the fallback name"
+abbrev pub nameOf : List ℕ → List ℕ → Name → List ℕ
+nameOf container fallback (Part start len) = partAt container start len
+nameOf container fallback Fallback = fallback

@@ -1,7 +1,7 @@
-// Strings and data of a table, handed out as parts of the slice that holds it; and the name, which is one of them.
-// Document 01, "@UTF tables". From the Rust: `extract_filename`.
+// Parts of a slice: strings and data of a table, and the name, which is one of them or the fallback.
+// Document 01, "@UTF tables" and "Refusal numbers". From the Rust: `extract_filename`.
 ghost use mathlib.Core.Path.{_≡_};
-ghost use Rattle.part.specs.Parts.{partAt, partOf, nameIn};
+ghost use Rattle.part.specs.Parts.{partAt, partOf, nameIn, nameOf};
 use cell::Cell;
 
 // Where a film's name stands: in a part of the slice, or nowhere in it, so that the fallback serves.
@@ -11,7 +11,7 @@ pub enum Name {
 }
 
 // The part of a slice from a start on, or its empty part where the slice does not hold that much.
-fn part_at(bytes: &[u8], start: usize, len: usize) -> &[u8]
+pub fn part_at(bytes: &[u8], start: usize, len: usize) -> &[u8]
     ensures { λ r. ⌜ now r ≡ partAt (now (bytes .entry)) start len ⌝ }
 {
     if bytes.len() < start {
@@ -51,5 +51,15 @@ pub fn name_in(cell: Cell) -> Name
         Cell::Signed(_) => Name::Fallback,
         Cell::Float(_) => Name::Fallback,
         Cell::NotANumber(_) => Name::Fallback,
+    }
+}
+
+// The name's bytes: a part of the container, or the fallback.
+pub fn name_of<'a>(container: &'a [u8], fallback: &'a [u8], name: Name) -> &'a [u8]
+    ensures { λ r. ⌜ now r ≡ nameOf (now (container .entry)) (now (fallback .entry)) name ⌝ }
+{
+    match name {
+        Name::Part { start, len } => part_at(container, start, len),
+        Name::Fallback => fallback,
     }
 }

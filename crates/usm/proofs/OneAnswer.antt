@@ -1,8 +1,17 @@
--- No second answer meets a contract of this crate: what a caller learns makes two results and two reports at exit one. Assumes nothing.
-use mathlib.Core.Path.{_≡_}
+-- No second answer meets a contract of this crate: what a caller learns makes two results, and two reports, outputs or lists at exit, one. Assumes nothing.
+use mathlib.Core.Path.{_≡_, refl}
+use base.Logic.{emp}
+use contract.Lifetimes.{Lfts}
+use denote.Triple.Clauses.{AtExit}
+use borrow.Fn.Claims.{AllOf}
+use borrow.Fn.Read.{Read, all-models, no-know, r-last}
+use borrow.Fn.World.{World, Pr, ArgsD, ResD}
 use Rattle.laws.proofs.OneAnswer.{no-second-answer}
 use Rattle.usm.proofs.usm_table.Reads as usm-table
 use Rattle.usm.proofs.usm_cell.Reads as usm-cell
+use Rattle.usm.proofs.usm_extract.Reads as usm-extract
+use Rattle.usm.proofs.usm_chunks.Reads as usm-chunks
+use Rattle.usm.proofs.usm_list as usm-list
 
 pub usm-table-once : (κs : _) (args : _) (r r′ : _) (exit exit′ : _) → usm-table.Learnt κs args r exit → usm-table.Learnt κs args r′ exit′
     → (r ≡ r′) × (exit .1 .1 .0 .now ≡ exit′ .1 .1 .0 .now)
@@ -11,3 +20,27 @@ usm-table-once κs args r r′ exit exit′ l l′ = (no-second-answer (l .0) (l
 pub usm-cell-once : (κs : _) (args : _) (r r′ : _) (exit exit′ : _) → usm-cell.Learnt κs args r exit → usm-cell.Learnt κs args r′ exit′
     → (r ≡ r′) × (exit .1 .1 .1 .1 .0 .now ≡ exit′ .1 .1 .1 .1 .0 .now)
 usm-cell-once κs args r r′ exit exit′ l l′ = (no-second-answer (l .0) (l′ .0), no-second-answer (l .1) (l′ .1))
+
+pub usm-extract-once : (κs : _) (args : _) (r r′ : _) (exit exit′ : _) → usm-extract.Learnt κs args r exit → usm-extract.Learnt κs args r′ exit′
+    → (r ≡ r′) × (exit .1 .1 .1 .1 .1 .1 .1 .0 .now ≡ exit′ .1 .1 .1 .1 .1 .1 .1 .0 .now) × (exit .1 .1 .1 .1 .1 .0 .now ≡ exit′ .1 .1 .1 .1 .1 .0 .now) × (exit .1 .1 .1 .1 .1 .1 .0 .now ≡ exit′ .1 .1 .1 .1 .1 .1 .0 .now)
+usm-extract-once κs args r r′ exit exit′ l l′ =
+    (no-second-answer (l .0) (l′ .0), no-second-answer (l .1) (l′ .1), no-second-answer (l .2) (l′ .2), no-second-answer (l .3) (l′ .3))
+
+pub usm-chunks-once : (κs : _) (args : _) (r r′ : _) (exit exit′ : _) → usm-chunks.Learnt κs args r exit → usm-chunks.Learnt κs args r′ exit′
+    → (r ≡ r′) × (exit .1 .1 .1 .0 .now ≡ exit′ .1 .1 .1 .0 .now)
+usm-chunks-once κs args r r′ exit exit′ l l′ = (no-second-answer (l .0) (l′ .0), no-second-answer (l .1) (l′ .1))
+
+-- Of a function over a slice of structs no `Reads` is made. What a caller learns of it is read off its contract here, in the same way.
+module _ (κs : Lfts 2) (args : ArgsD usm-list.signature κs) (r : ResD usm-list.signature κs) (exit : AtExit usm-list.ended κs) where
+  abbrev pub Ensured : (w : World) → Pr w
+  Ensured w = usm-list.clauses (w .𝓤) (w .H) (w .𝓖 .A) (w .𝓜 .mem) (w .𝓡 .run) κs args .ensures tt r exit
+
+  abbrev pub reading : Read (λ w. emp (w .𝓤)) no-know Ensured
+  reading = all-models Ensured (λ w. r-last _) (λ w. refl) (λ w. refl) (λ w. refl)
+
+  abbrev pub ListLearnt : Type 0
+  ListLearnt = AllOf (reading .tells)
+
+pub usm-list-once : (κs : _) (args : _) (r r′ : _) (exit exit′ : _) → ListLearnt κs args r exit → ListLearnt κs args r′ exit′
+    → (r ≡ r′) × (exit .1 .1 .0 .now ≡ exit′ .1 .1 .0 .now)
+usm-list-once κs args r r′ exit exit′ l l′ = (no-second-answer (l .0) (l′ .0), no-second-answer (l .1) (l′ .1))

@@ -1,119 +1,47 @@
-// What another program links: tables and their cells, on byte slices, numbers and a lent report of words.
-// Declared for C in include/usm.h; `rt staticlib usm` builds the library.
+// What another program links: tables and cells, whole films and their chunks, on byte slices, numbers and a lent report
+// of words. Declared for C in include/usm.h; `rt staticlib usm` builds the library.
 ghost use mathlib.Core.Path.{_≡_};
 ghost use Prim.Native.Nat.{_≤_};
 ghost use mathlib.Core.List.{_++_};
-ghost use lib.ListN.{length, take, drop};
+ghost use lib.ListN.{length, drop};
 ghost use Rattle.table.specs.Tables.{tableAt};
 ghost use Rattle.lookup.specs.Lookups.{cellOf};
-ghost use Rattle.usm.specs.Reports.{tableNumber, refusedWords, tableWords, cellNumber, cellWords, given, reported};
-use lookup::Lookup;
-use refusal::Cause;
-use table::TableAnswer;
+ghost use Rattle.reading.specs.Choices.{readingBy};
+ghost use Rattle.film.specs.Films.{filmOf, surveyOf};
+ghost use Rattle.list.specs.Listing.{listedIn, listNumber, filledBy};
+ghost use Rattle.report.specs.TableWords.{tableNumber, tableWords, cellNumber, cellWords};
+ghost use Rattle.report.specs.FilmWords.{listWords};
+ghost use Rattle.usm.specs.Reports.{given, reported};
+ghost use Rattle.usm.specs.Exports.{FilmReported};
+use list::ChunkRecord;
 
-// The words of a table's report.
-const TABLE_WORDS: usize = 5;
-
-// The words of a cell's report.
-const CELL_WORDS: usize = 6;
-
-// What is given where a report has fewer words.
+// What is given where a report has fewer words than the answer.
 const TOO_SHORT: u8 = 255;
 
-// Puts the first `count` words into a report. Words past them stay.
-fn put(report: &mut [u64], words: [u64; 6], count: usize)
-    requires { ⌜ (count ≤ 6) × (count ≤ length (now report)) ⌝ }
-    ensures { λ _. ⌜ now (report .exit) ≡ take count words ++ drop count (now (report .entry)) ⌝ }
+// Puts words at the start of a report. Words past them stay.
+fn put(words: &[u64], report: &mut [u64])
+    requires { ⌜ length (now words) ≤ length (now report) ⌝ }
+    ensures { λ _. ⌜ now (report .exit) ≡ now (words .entry) ++ drop (length (now (words .entry))) (now (report .entry)) ⌝ }
 {
     let mut i = 0;
-    while i < count {
+    while i < words.len() {
         report[i] = words[i];
         i += 1;
-    }
-}
-
-// The number that a table's report begins with: the refusal's, 0 where there is none.
-fn table_number(answer: TableAnswer) -> u8
-    ensures { λ r. ⌜ r ≡ tableNumber answer ⌝ }
-{
-    match answer {
-        TableAnswer::Table {
-            columns: _,
-            rows: _,
-        } => 0,
-        TableAnswer::NoTable(refusal) => {
-            let cause = refusal.cause;
-            refusal::number_of(cause)
-        }
-    }
-}
-
-// A refusal's words, with none of what follows them.
-fn refused_words(cause: Cause, place: usize) -> [u64; 6]
-    ensures { λ r. ⌜ r ≡ refusedWords cause place ⌝ }
-{
-    let number = refusal::number_of(cause);
-    let kind = refusal::type_of(cause);
-    [number as u64, place as u64, kind as u64, 0, 0, 0]
-}
-
-// A table's words: number, place, type, columns, rows.
-fn table_words(answer: TableAnswer) -> [u64; 6]
-    ensures { λ r. ⌜ r ≡ tableWords answer ⌝ }
-{
-    match answer {
-        TableAnswer::Table { columns, rows } => [0, 0, 0, columns as u64, rows as u64, 0],
-        TableAnswer::NoTable(refusal) => {
-            let cause = refusal.cause;
-            refused_words(cause, refusal.place)
-        }
     }
 }
 
 // The table at a place of a slice: its number and its report.
 #[no_mangle]
 pub extern "C" fn usm_table(bytes: &[u8], place: usize, report: &mut [u64]) -> u8
-    ensures { λ r. ⌜ (r ≡ given 5 (tableNumber (tableAt (now (bytes .entry)) place)) (now (report .entry))) × (now (report .exit) ≡ reported 5 (tableWords (tableAt (now (bytes .entry)) place)) (now (report .entry))) ⌝ }
+    ensures { λ r. ⌜ (r ≡ given (tableWords (tableAt (now (bytes .entry)) place)) (tableNumber (tableAt (now (bytes .entry)) place)) (now (report .entry))) × (now (report .exit) ≡ reported (tableWords (tableAt (now (bytes .entry)) place)) (now (report .entry))) ⌝ }
 {
-    if report.len() < TABLE_WORDS {
+    if report.len() < report::TABLE_WORDS {
         return TOO_SHORT;
     }
     let answer = table::read_table(bytes, place);
-    put(report, table_words(answer), TABLE_WORDS);
-    table_number(answer)
-}
-
-// The number that a cell's report begins with: the refusal's, 0 where there is none.
-fn cell_number(answer: Lookup) -> u8
-    ensures { λ r. ⌜ r ≡ cellNumber answer ⌝ }
-{
-    match answer {
-        Lookup::Holds(_) => 0,
-        Lookup::NoTable(refusal) => {
-            let cause = refusal.cause;
-            refusal::number_of(cause)
-        }
-    }
-}
-
-// A cell's words: number, place, type, case, value or start, length.
-fn cell_words(answer: Lookup) -> [u64; 6]
-    ensures { λ r. ⌜ r ≡ cellWords answer ⌝ }
-{
-    match answer {
-        Lookup::Holds(held) => [
-            0,
-            0,
-            0,
-            cell::case_of(held),
-            cell::value_of(held),
-            cell::length_of(held),
-        ],
-        Lookup::NoTable(refusal) => {
-            let cause = refusal.cause;
-            refused_words(cause, refusal.place)
-        }
-    }
+    let words = report::table_words(answer);
+    put(&words, report);
+    report::table_number(answer)
 }
 
 // The cell of the last column of a name, in a row of the table at a place of a slice: its number and its report.
@@ -125,12 +53,71 @@ pub extern "C" fn usm_cell(
     row: usize,
     report: &mut [u64],
 ) -> u8
-    ensures { λ r. ⌜ (r ≡ given 6 (cellNumber (cellOf (now (bytes .entry)) place (now (name .entry)) row)) (now (report .entry))) × (now (report .exit) ≡ reported 6 (cellWords (cellOf (now (bytes .entry)) place (now (name .entry)) row)) (now (report .entry))) ⌝ }
+    ensures { λ r. ⌜ (r ≡ given (cellWords (cellOf (now (bytes .entry)) place (now (name .entry)) row)) (cellNumber (cellOf (now (bytes .entry)) place (now (name .entry)) row)) (now (report .entry))) × (now (report .exit) ≡ reported (cellWords (cellOf (now (bytes .entry)) place (now (name .entry)) row)) (now (report .entry))) ⌝ }
 {
-    if report.len() < CELL_WORDS {
+    if report.len() < report::CELL_WORDS {
         return TOO_SHORT;
     }
     let answer = lookup::cell_of(bytes, place, name, row);
-    put(report, cell_words(answer), CELL_WORDS);
-    cell_number(answer)
+    let words = report::cell_words(answer);
+    put(&words, report);
+    report::cell_number(answer)
+}
+
+// Both streams of a film, its number and its report. Audio is asked for by every number but 0, and so is a key given.
+#[no_mangle]
+pub extern "C" fn usm_extract(
+    container: &[u8],
+    audio: u8,
+    keyed: u8,
+    key: u64,
+    fallback: &[u8],
+    video: &mut [u8],
+    sound: &mut [u8],
+    report: &mut [u64],
+) -> u8
+    ensures { λ r. ⌜ FilmReported (now (container .entry)) audio keyed key (now (fallback .entry)) (now (video .entry)) (now (sound .entry)) (now (report .entry)) r (now (video .exit)) (now (sound .exit)) (now (report .exit)) ⌝ }
+{
+    if report.len() < report::FILM_WORDS {
+        return TOO_SHORT;
+    }
+    let reading = reading::reading_by(audio);
+    let given = clear::key_by(keyed, key);
+    let answer = extract::extract(container, reading, given, video, sound);
+    let words = report::film_words(answer, fallback.len());
+    put(&words, report);
+    report::film_number(answer)
+}
+
+// What a listing of a container into so many records answers: its number and its report. Audio is asked for by every
+// number but 0. No list is filled.
+#[no_mangle]
+pub extern "C" fn usm_chunks(container: &[u8], audio: u8, room: usize, report: &mut [u64]) -> u8
+    ensures { λ r. ⌜ (r ≡ given (listWords (listedIn room (surveyOf (filmOf (now (container .entry)) (readingBy audio))))) (listNumber (listedIn room (surveyOf (filmOf (now (container .entry)) (readingBy audio))))) (now (report .entry))) × (now (report .exit) ≡ reported (listWords (listedIn room (surveyOf (filmOf (now (container .entry)) (readingBy audio))))) (now (report .entry))) ⌝ }
+{
+    if report.len() < report::LIST_WORDS {
+        return TOO_SHORT;
+    }
+    let reading = reading::reading_by(audio);
+    let answer = list::list_answer(container, reading, room);
+    let words = report::list_words(answer);
+    put(&words, report);
+    list::list_number(answer)
+}
+
+// Fills a lent list with a record for each chunk of a container, and gives the number: 0, or the refusal's, which leaves the list as it was.
+#[no_mangle]
+pub extern "C" fn usm_list(container: &[u8], audio: u8, list: &mut [ChunkRecord]) -> u8
+    ensures { λ r. ⌜ (r ≡ listNumber (listedIn (length (now (list .entry))) (surveyOf (filmOf (now (container .entry)) (readingBy audio))))) × (now (list .exit) ≡ filledBy (filmOf (now (container .entry)) (readingBy audio)) (now (list .entry))) ⌝ }
+{
+    let plan = list::list_plan(container, audio, list.len());
+    let mut place = plan.start;
+    let mut filled = 0;
+    while filled < plan.count {
+        let step = list::record_at(container, place, plan.heard);
+        list[filled] = step.made;
+        place = step.next;
+        filled += 1;
+    }
+    plan.number
 }

@@ -2,7 +2,7 @@
 // whether enough bytes are there is another question, which `left_from` answers.
 // Document 01, "@UTF tables": "Big-endian throughout." From the Rust: the reads of `reader.rs`.
 ghost use mathlib.Core.Path.{_≡_};
-ghost use Prim.Native.Nat.{_-_, _<_, _^_};
+ghost use Prim.Native.Nat.{_+_, _-_, _≤_, _<_, _^_};
 ghost use lib.ListN.{length};
 ghost use Rattle.laws.specs.Lists.{at};
 ghost use Rattle.word.specs.Numbers.{be16, be32, be64};
@@ -27,6 +27,21 @@ pub fn read8(bytes: &[u8], place: usize) -> usize
     0
 }
 
+// A byte as a wider number.
+fn wide(byte: u8) -> usize
+    ensures { λ r. ⌜ (r ≡ byte) × (r < 2 ^ 8) ⌝ }
+{
+    byte as usize
+}
+
+// The number of two bytes that are there. No test stands between such reads, so the compiler makes one read of several.
+fn two_at(bytes: &[u8], place: usize) -> usize
+    requires { ⌜ place + 2 ≤ length (now bytes) ⌝ }
+    ensures { λ r. ⌜ (r ≡ be16 (now (bytes .entry)) place) × (r < 2 ^ 16) ⌝ }
+{
+    wide(bytes[place]) * 0x100 + wide(bytes[place + 1])
+}
+
 // The number of the two bytes at a place.
 pub fn read16(bytes: &[u8], place: usize) -> usize
     ensures { λ r. ⌜ (r ≡ be16 (now (bytes .entry)) place) × (r < 2 ^ 16) ⌝ }
@@ -34,17 +49,21 @@ pub fn read16(bytes: &[u8], place: usize) -> usize
     if left_from(bytes, place) < 2 {
         return read8(bytes, place) * 0x100;
     }
-    read8(bytes, place) * 0x100 + read8(bytes, place + 1)
+    two_at(bytes, place)
 }
 
 // The number of the four bytes at a place.
 pub fn read32(bytes: &[u8], place: usize) -> usize
     ensures { λ r. ⌜ (r ≡ be32 (now (bytes .entry)) place) × (r < 2 ^ 32) ⌝ }
 {
-    if left_from(bytes, place) < 3 {
+    let left = left_from(bytes, place);
+    if left < 3 {
         return read16(bytes, place) * 0x1_0000;
     }
-    read16(bytes, place) * 0x1_0000 + read16(bytes, place + 2)
+    if left < 4 {
+        return two_at(bytes, place) * 0x1_0000 + read16(bytes, place + 2);
+    }
+    two_at(bytes, place) * 0x1_0000 + two_at(bytes, place + 2)
 }
 
 // The number of the eight bytes at a place.

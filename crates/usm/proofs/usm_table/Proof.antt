@@ -1,23 +1,27 @@
--- `usm::usm_table` meets its contract, by those of the table and of its words. Assumes nothing.
+-- `usm::usm_table` meets its contract, by those of the answer and of its words. Assumes nothing.
 use mathlib.Core.Path.{ap, _∙_}
-use mathlib.Core.List.{List, _++_}
-use Prim.Native.Nat.{ℕ}
-use lib.ListN.{take, drop}
+use Rattle.table.specs.Tables.{tableAt}
+use Rattle.report.specs.TableWords.{tableNumber, tableWords}
+use Rattle.report.proofs.WordLaws.{table-size}
+use Rattle.usm.proofs.ReportLaws.{given-short, given-long, stays, put-as}
 use borrow.Author.Needs.{needs}
-use borrow.Author.Tests.{lt-ltb, le-ltb}
-use Rattle.usm.specs.Reports.{tableNumber, tableWords, reported}
 use Rattle.usm.proofs.usm_table.Statement.{statement}
 use Rattle.usm.proofs.usm_table.Tie as tie
 
 returns : tie.Need-returns
-unfolding reported
-returns c = (rw (lt-ltb _ _ (c .if1 .taken)), rw (lt-ltb _ _ (c .if1 .taken)))
+returns c =
+    let a = c .before .before .before .args in
+    let sized = table-size (tableAt (a .bytes .now) (a .place)) in
+    (given-short _ _ 5 sized _ (c .if1 .taken), stays _ _ 5 sized (c .if1 .taken))
 
 read-table-requires : tie.Need-read-table-requires
 read-table-requires c κs = search needs
 
 table-words-requires : tie.Need-table-words-requires
 table-words-requires c κs = search needs
+
+slice-aggregate-put : tie.Need-slice-aggregate-put
+slice-aggregate-put c = search needs
 
 put-requires : tie.Need-put-requires
 put-requires c κs = search needs
@@ -29,13 +33,13 @@ same-length : tie.Need-same-length
 same-length c = search needs
 
 returns-2 : tie.Need-returns-2
-unfolding reported
 returns-2 c =
-    let t = c .before .before .before .before .before .before in
-    let long = t .before .if1 .left in
-    let words = c .before .before .before .before .table-words .ensures ∙ ap tableWords (t .read-table .ensures) in (
-      rw (le-ltb _ _ long) (c .table-number .ensures ∙ ap tableNumber (t .read-table .ensures)),
-      rw (le-ltb _ _ long) (c .before .before .before .put .ensures ∙ ap (λ (w : List ℕ). take 5 w ++ drop 5 (t .before .before .before .before .args .report .now)) words),
+    let a = c .before .before .before .before .before .before .before .before .before .before .before .args in
+    let sized = table-size (tableAt (a .bytes .now) (a .place)) in
+    let answer = c .before .before .before .before .before .before .before .read-table .ensures in
+    let room = c .before .before .before .before .before .before .before .before .if1 .left in (
+      c .table-number .ensures ∙ ap tableNumber answer ∙ given-long _ _ 5 sized _ room,
+      put-as _ _ 5 sized _ _ (c .before .before .before .before .before .before .table-words .ensures ∙ ap tableWords answer) (c .before .before .before .put .ensures) room,
     )
 
 pub usm-table-spec : {M : Type 1} → statement M
@@ -45,6 +49,7 @@ usm-table-spec =
     returns
     read-table-requires
     table-words-requires
+    slice-aggregate-put
     put-requires
     table-number-requires
     same-length

@@ -1,9 +1,9 @@
 -- `word::read16` meets its contract: where the slice ends before the second half, that half is 0. Assumes nothing.
 use Prim.Native.Nat.{_+_, _≤_}
 use native.Mathlib.Omega.{arith}
-use borrow.Author.Needs.{needs}
 use lib.ListN.{length}
 use Rattle.word.proofs.PastEnd.{past-end}
+use borrow.Author.Needs.{needs}
 use Rattle.word.proofs.read16.Statement.{statement}
 use Rattle.word.proofs.read16.Tie as tie
 
@@ -22,20 +22,8 @@ returns c =
     let past-1 : length (a .bytes .now) ≤ a .place + 1 = omega arith in
     omega (arith, past-end (a .bytes .now) (a .place + 1) past-1)
 
-read8-requires-2 : tie.Need-read8-requires-2
-read8-requires-2 c κs = search needs
-
-mul-result-2 : tie.Need-mul-result-2
-mul-result-2 c = search needs
-
-add-read8 : tie.Need-add-read8
-add-read8 c = search needs
-
-read8-requires-3 : tie.Need-read8-requires-3
-read8-requires-3 c κs = search needs
-
-add-result : tie.Need-add-result
-add-result c = search needs
+two-at-requires : tie.Need-two-at-requires
+two-at-requires c κs = search needs
 
 returns-2 : tie.Need-returns-2
 returns-2 c = search needs
@@ -43,14 +31,4 @@ returns-2 c = search needs
 pub read16-spec : {M : Type 1} → statement M
 read16-spec =
     tie.close
-    (tie.spec
-    left-from-requires
-    read8-requires
-    mul-result
-    returns
-    read8-requires-2
-    mul-result-2
-    add-read8
-    read8-requires-3
-    add-result
-    returns-2)
+    (tie.spec left-from-requires read8-requires mul-result returns two-at-requires returns-2)

@@ -1,0 +1,62 @@
+-- What is known of a chunk that was found: it has its 45 bytes, its data type is below 4, its payload is in the container, and the next place lies past both.
+-- Assumes nothing.
+use mathlib.Core.Path.{_≡_, refl}
+use mathlib.Core.List.{List}
+use mathlib.Core.Bool.{Bool, true, false, cond}
+use Prim.Native.Nat.{ℕ, _+_, _-_, _≤_, _<_}
+use native.Mathlib.Omega.{arith}
+use lib.ListN.{length}
+use lib.Dec.{ltb}
+use borrow.Author.Tests.{ltb-false}
+use Rattle.word.specs.Numbers.{be32}
+use Rattle.refusal.specs.declared.Cause.{Cause}
+use Rattle.refusal.specs.declared.Cause.the-variants.{RanOut, TooSmall}
+use Rattle.reading.specs.declared.Reading.{Reading}
+use Rattle.chunk.specs.declared.Chunk.{Chunk}
+use Rattle.chunk.specs.declared.ChunkStep.{ChunkStep}
+use Rattle.chunk.specs.declared.ChunkStep.the-variants.{Over, Found}
+use Rattle.chunk.specs.Chunks.{kindAt, isTaken, spareAt, chunkOf, refusedAt, takenAt, chunkAt}
+
+pub record Within (container : List ℕ) (c : ℕ) (chunk : Chunk) : Type 0 where
+  pub whole : 45 ≤ length container - c
+  pub start : chunk .start ≡ c
+  pub typed : chunk .tag < 4
+  pub inside : 0x20 + chunk .len ≤ length container - c
+  pub past : c + 8 + chunk .len ≤ chunk .next
+
+-- what was found past a test did not stop there
+not-over : (t : Bool) (chunk : Chunk) (next : ChunkStep) → cond t Over next ≡ Found chunk → (t ≡ false) × (next ≡ Found chunk)
+not-over true chunk next e = let z : _≡_ {A = ℕ} 0 1 = cc in absurd (omega arith)
+not-over false chunk next e = (refl, e)
+
+not-refused : (t : Bool) (c : ℕ) (why : Cause) (chunk : Chunk) (next : ChunkStep) → cond t (refusedAt c why) next ≡ Found chunk → (t ≡ false) × (next ≡ Found chunk)
+not-refused true c why chunk next e = let z : _≡_ {A = ℕ} 0 1 = cc in absurd (omega arith)
+not-refused false c why chunk next e = (refl, e)
+
+module _ (container : List ℕ) (c : ℕ) (chunk : Chunk) (enough : 45 ≤ length container - c) where
+  -- the chunk at c with a payload of n bytes
+  of-length : (n : ℕ) → 0x20 + n ≤ length container - c → n ≤ be32 container (c + 4) → Found (chunkOf container c n) ≡ Found chunk → Within container c chunk
+  unfolding chunkOf
+  of-length n h k e =
+      let f : chunkOf container c n ≡ chunk = cc in
+      rw (← f) (record { whole = enough; start = refl; typed = omega arith; inside = h; past = omega arith })
+
+  of-taken : takenAt container c ≡ Found chunk → Within container c chunk
+  unfolding takenAt
+  of-taken e =
+      let a = not-refused (ltb (be32 container (c + 4)) (spareAt container c)) c TooSmall chunk _ e in
+      let b = not-refused (ltb (length container - (c + 0x20)) (be32 container (c + 4) - spareAt container c)) c RanOut chunk _ (a .1) in
+      let g = ltb-false (be32 container (c + 4)) (spareAt container c) (a .0) in
+      let h = ltb-false (length container - (c + 0x20)) (be32 container (c + 4) - spareAt container c) (b .0) in
+      of-length (be32 container (c + 4) - spareAt container c) (omega arith) (omega arith) (b .1)
+
+  of-either : (t : Bool) → cond t (takenAt container c) (Found (chunkOf container c 0)) ≡ Found chunk → Within container c chunk
+  of-either true e = of-taken e
+  of-either false e = of-length 0 (omega arith) (omega arith) e
+
+pub found : (container : List ℕ) (reading : Reading) (c : ℕ) (chunk : Chunk) → chunkAt container reading c ≡ Found chunk → Within container c chunk
+unfolding chunkAt
+found container reading c chunk e =
+    let a = not-over (ltb (length container - c) 4) chunk _ e in
+    let b = not-refused (ltb (length container - c) 45) c RanOut chunk _ (a .1) in
+    of-either container c chunk (ltb-false (length container - c) 45 (b .0)) (isTaken reading (kindAt container c)) (b .1)

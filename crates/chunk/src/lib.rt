@@ -1,0 +1,164 @@
+// One chunk of a container, and its payload as a part of the container. Document 01, "Chunks".
+// From the Rust: `read_chunk_header`, `read_data_len`, and which chunks `extract_usm_chunks_to_memory` takes.
+ghost use mathlib.Core.Path.{_≡_};
+ghost use Prim.Native.Nat.{_+_, _≤_};
+ghost use lib.ListN.{length};
+ghost use Rattle.chunk.specs.Chunks.{kindNumber, kindAt, isTaken, chunkOf, refusedAt, takenAt, chunkAt, payloadOf, payloadAt};
+use reading::Reading;
+use refusal::Cause;
+use refusal::Refusal;
+
+// What a chunk is.
+pub enum Kind {
+    Video,
+    Audio,
+    Other,
+    End,
+}
+
+// A chunk: where it starts, what it is, its data type, how long its payload is (0 if it is skipped), where the next one starts.
+pub struct Chunk {
+    pub start: usize,
+    pub kind: Kind,
+    pub tag: u8,
+    pub len: usize,
+    pub next: usize,
+}
+
+// What stands at a place: the end of all chunks, a chunk, or why there is none.
+pub enum ChunkStep {
+    Over,
+    Found(Chunk),
+    Refused(Refusal),
+}
+
+// With fewer bytes left, the chunks end.
+const LETTERS: usize = 4;
+
+// The bytes that every chunk has: as many as an end chunk needs.
+const WHOLE: usize = 45;
+
+// The number of a kind.
+pub fn kind_number(kind: Kind) -> u8
+    ensures { λ r. ⌜ r ≡ kindNumber kind ⌝ }
+{
+    match kind {
+        Kind::Video => 0,
+        Kind::Audio => 1,
+        Kind::Other => 2,
+        Kind::End => 3,
+    }
+}
+
+// What the chunk at a place is.
+fn kind_at(container: &[u8], place: usize) -> Kind
+    requires { ⌜ place + 45 ≤ length (now container) ⌝ }
+    ensures { λ r. ⌜ r ≡ kindAt (now (container .entry)) place ⌝ }
+{
+    if letters::stands_at(b"#CONTENTS END", container, place + letters::INSIDE) {
+        return Kind::End;
+    }
+    let name = word::read32(container, place);
+    if name == letters::SFV {
+        return Kind::Video;
+    }
+    if name == letters::SFA {
+        return Kind::Audio;
+    }
+    Kind::Other
+}
+
+// Whether the payload of such a chunk is taken.
+fn is_taken(reading: Reading, kind: Kind) -> bool
+    ensures { λ r. ⌜ r ≡ isTaken reading kind ⌝ }
+{
+    match kind {
+        Kind::Video => true,
+        Kind::Audio => {
+            let choice = reading.audio;
+            reading::is_chosen(choice)
+        }
+        Kind::Other => false,
+        Kind::End => false,
+    }
+}
+
+// The chunk of a kind at a place, with a payload of a length.
+fn chunk_of(container: &[u8], place: usize, kind: Kind, len: usize) -> Chunk
+    requires { ⌜ (place + 45 ≤ length (now container)) × (kind ≡ kindAt (now container) place) ⌝ }
+    ensures { λ r. ⌜ r ≡ chunkOf (now (container .entry)) place len ⌝ }
+{
+    let tag = container[place + 15] % 4;
+    let next = place + 8 + word::read32(container, place + 4);
+    Chunk {
+        start: place,
+        kind,
+        tag,
+        len,
+        next,
+    }
+}
+
+// A refusal of the chunk at a place.
+fn refused(cause: Cause, place: usize) -> ChunkStep
+    ensures { λ r. ⌜ r ≡ refusedAt place cause ⌝ }
+{
+    ChunkStep::Refused(Refusal { cause, place })
+}
+
+// The chunk at a place, whose payload is taken: it has to be there in full.
+fn taken_at(container: &[u8], place: usize, kind: Kind) -> ChunkStep
+    requires { ⌜ (place + 45 ≤ length (now container)) × (kind ≡ kindAt (now container) place) ⌝ }
+    ensures { λ r. ⌜ r ≡ takenAt (now (container .entry)) place ⌝ }
+{
+    let block = word::read32(container, place + 4);
+    let spare = word::read16(container, place + 8) + word::read16(container, place + 10);
+    if block < spare {
+        return refused(Cause::TooSmall, place);
+    }
+    let len = block - spare;
+    if word::left_from(container, place + letters::INSIDE) < len {
+        return refused(Cause::RanOut, place);
+    }
+    ChunkStep::Found(chunk_of(container, place, kind, len))
+}
+
+// The chunk at a place, or that the chunks end there, or why it is refused.
+pub fn chunk_at(container: &[u8], place: usize, reading: Reading) -> ChunkStep
+    ensures { λ r. ⌜ r ≡ chunkAt (now (container .entry)) reading place ⌝ }
+{
+    let left = word::left_from(container, place);
+    if left < LETTERS {
+        return ChunkStep::Over;
+    }
+    if left < WHOLE {
+        return refused(Cause::RanOut, place);
+    }
+    let kind = kind_at(container, place);
+    if is_taken(reading, kind) {
+        return taken_at(container, place, kind);
+    }
+    ChunkStep::Found(chunk_of(container, place, kind, 0))
+}
+
+// The payload of a chunk, a part of the container; its empty part where the container does not hold that much.
+pub fn payload_of(container: &[u8], chunk: Chunk) -> &[u8]
+    ensures { λ r. ⌜ now r ≡ payloadOf (now (container .entry)) chunk ⌝ }
+{
+    let start = chunk.start;
+    if word::left_from(container, start) < letters::INSIDE {
+        return &container[0..0];
+    }
+    part::part_at(container, start + letters::INSIDE, chunk.len)
+}
+
+// The payload of the chunk at a place: empty where the chunk is skipped or refused, or the chunks end.
+pub fn read_payload(container: &[u8], place: usize, reading: Reading) -> &[u8]
+    ensures { λ r. ⌜ now r ≡ payloadAt (now (container .entry)) reading place ⌝ }
+{
+    match chunk_at(container, place, reading) {
+        ChunkStep::Over => &container[0..0],
+        ChunkStep::Found(chunk) => payload_of(container, chunk),
+        ChunkStep::Refused(_) => &container[0..0],
+    }
+}

@@ -1,0 +1,79 @@
+-- Each answer of an extraction, with both outputs after it, from the survey and the tests. Assumes nothing.
+use Prim.Native.Nat.{ℕ, _+_, _≤_}
+use mathlib.Core.Path.{_≡_, refl, sym, ap, _∙_}
+use mathlib.Core.List.{List}
+use mathlib.Core.Bool.{Bool, true, false, _||_}
+use native.Mathlib.Omega.{arith}
+use lib.ListN.{length}
+use lib.Seq.{sets}
+use lib.Dec.{ltb}
+use borrow.Author.Tests.{ltb-false}
+use Rattle.refusal.specs.declared.Refusal.{Refusal}
+use Rattle.refusal.specs.declared.Cause.the-variants.{Oversized, ShortOutput}
+use Rattle.reading.specs.declared.Reading.{Reading}
+use Rattle.reading.specs.Choices.{appliedTo}
+use Rattle.chunk.specs.declared.Chunk.{Chunk}
+use Rattle.walk.specs.Walks.{walkFrom, videoSize, audioSize}
+use Rattle.clear.specs.declared.Key.{Key}
+use Rattle.clear.specs.declared.Unmasking.{Unmasking}
+use Rattle.clear.specs.Unmasking.{unmaskingOf}
+use Rattle.header.specs.declared.Header.{Header}
+use Rattle.film.specs.Films.{film, filmOf, surveyOf}
+use Rattle.film.specs.declared.Surveyed.the-variants as survey
+use Rattle.film.proofs.FilmLaws.{surveyed-film}
+use Rattle.extract.specs.declared.Contents.{Contents}
+use Rattle.extract.specs.declared.Extracted.{Extracted}
+use Rattle.extract.specs.declared.Extracted.the-variants as extracted
+use Rattle.extract.specs.Streams.{videoStream, audioStream}
+use Rattle.extract.specs.Extraction.{contentsOf, refusedBy, Extraction}
+
+-- neither of two outputs is short
+both-long : (a b c d : ℕ) → (ltb a b || ltb c d) ≡ false → (b ≤ a) × (d ≤ c)
+both-long a b c d e = by-test (ltb a b) (ltb c d) refl refl e
+  where
+    by-test : (s t : Bool) → ltb a b ≡ s → ltb c d ≡ t → (s || t) ≡ false → (b ≤ a) × (d ≤ c)
+    by-test true t p q r = let z : _≡_ {A = ℕ} 0 1 = cc in absurd (omega arith)
+    by-test false true p q r = let z : _≡_ {A = ℕ} 0 1 = cc in absurd (omega arith)
+    by-test false false p q r = (ltb-false a b p, ltb-false c d q)
+
+-- the sizes of a film that was surveyed are those of the chunks from where its header says
+module _ (container : List ℕ) (reading : Reading) (header : Header) (count seen heard : ℕ) (e : surveyOf (filmOf container reading) ≡ survey.Film header count seen heard) where
+  abbrev chunks : List Chunk
+  chunks = walkFrom container (appliedTo (header .audio) reading) (header .chunks) .chunks
+
+  pub its-film : filmOf container reading ≡ film header chunks
+  its-film = surveyed-film container reading header count seen heard e
+
+  pub its-sizes : (videoSize chunks ≡ seen) × (audioSize chunks ≡ heard)
+  its-sizes = let f : surveyOf (film header chunks) ≡ survey.Film header count seen heard = sym (ap surveyOf its-film) ∙ e in (cc, cc)
+
+  -- where neither output is short, both streams have room
+  pub both-fit : (videoRoom audioRoom : ℕ) → (ltb videoRoom seen || ltb audioRoom heard) ≡ false → (applied : Reading) → applied ≡ appliedTo (header .audio) reading
+      → (videoSize (walkFrom container applied (header .chunks) .chunks) ≤ videoRoom) × (audioSize (walkFrom container applied (header .chunks) .chunks) ≤ audioRoom)
+  both-fit videoRoom audioRoom room applied a =
+      let l = both-long videoRoom seen audioRoom heard room in
+      rw a (omega (arith, its-sizes .0, l .0), omega (arith, its-sizes .1, l .1))
+
+module _ (container : List ℕ) (reading : Reading) (key : Key) (video audio : List ℕ) where
+  pub not-surveyed : (refusal : Refusal) → surveyOf (filmOf container reading) ≡ survey.Refused refusal
+      → Extraction container reading key video audio (extracted.Refused refusal) video audio
+  not-surveyed refusal e = (rw e, refl, refl)
+
+  module _ (header : Header) (count seen heard : ℕ) (e : surveyOf (filmOf container reading) ≡ survey.Film header count seen heard) where
+    pub oversized : ltb (length container) (seen + heard) ≡ true → (r : Extracted) → r ≡ refusedBy Oversized
+        → Extraction container reading key video audio r video audio
+    oversized t r q = rw q (rw (e, t), refl, refl)
+
+    module _ (fits : ltb (length container) (seen + heard) ≡ false) where
+      pub short-output : (ltb (length video) seen || ltb (length audio) heard) ≡ true → (r : Extracted) → r ≡ refusedBy (ShortOutput seen heard)
+          → Extraction container reading key video audio r video audio
+      short-output t r q = rw q (rw (e, fits, t), refl, refl)
+
+      pub extracted-film : (ltb (length video) seen || ltb (length audio) heard) ≡ false → (applied : Reading) → applied ≡ appliedTo (header .audio) reading
+          → (unmasking : Unmasking) → unmasking ≡ unmaskingOf key (header .sound) → (contents : Contents) → contents ≡ contentsOf header seen heard
+          → (video′ audio′ : List ℕ) → video′ ≡ sets video 0 (videoStream container unmasking (walkFrom container applied (header .chunks) .chunks))
+          → audio′ ≡ sets audio 0 (audioStream container unmasking (walkFrom container applied (header .chunks) .chunks))
+          → Extraction container reading key video audio (extracted.Film contents) video′ audio′
+      extracted-film room applied a unmasking u contents q video′ audio′ v w =
+          let f = its-film container reading header count seen heard e in
+          (rw (e, fits, room, q), rw (f, v, a, u), rw (f, w, a, u))

@@ -1,0 +1,6 @@
+pub mod PutLaws
+pub mod StreamLaws
+pub mod WrittenLaws
+pub mod AnswerLaws
+pub mod Promises
+pub mod OneAnswer

@@ -1,0 +1,110 @@
+-- A stream takes a part of each payload, by the chunk's kind, and makes it clear at its own length. The payload of a chunk that was found is in the
+-- container, so a stream is as long as its size says. Assumes nothing.
+use Prim.Native.Nat.{ℕ, zero, suc, _+_, _≤_}
+use mathlib.Core.Path.{_≡_, refl, ap₂, _∙_}
+use mathlib.Core.List.{List}
+use mathlib.Core.Bool.{Bool, true, false, cond}
+use native.Mathlib.Omega.{arith}
+use lib.ListN.{length, drop, length-append, length-drop}
+use lib.Seq.{length-take-le}
+use borrow.Author.Tests.{le-leb}
+use Rattle.reading.specs.declared.Reading.{Reading}
+use Rattle.mask.specs.Video.{unmaskedVideo}
+use Rattle.mask.specs.Audio.{maskedAudio}
+use Rattle.mask.proofs.UndoLaws.{video-length, audio-length}
+use Rattle.chunk.specs.declared.Kind.{Kind}
+use Rattle.chunk.specs.declared.Kind.the-variants.{Video, Audio, Other, End}
+use Rattle.chunk.specs.declared.Chunk.{Chunk}
+use Rattle.chunk.specs.declared.ChunkStep.{ChunkStep}
+use Rattle.chunk.specs.declared.ChunkStep.the-variants.{Over, Found, Refused}
+use Rattle.chunk.specs.Chunks.{chunkAt, payloadOf}
+use Rattle.chunk.proofs.FoundLaws.{found}
+use Rattle.walk.specs.Walks.{goOn, walkFor, walkFrom, videoIn, audioIn, sizeOf}
+use Rattle.clear.specs.declared.Unmasking.{Unmasking}
+use Rattle.clear.specs.Unmasking.{isMasked, clearVideo, clearAudio}
+use Rattle.extract.specs.Streams.{videoPart, audioPart, joined}
+
+-- its part of a payload and that part's share of the length, and how it makes a part clear, by the data type
+pub record Stream : Type 0 where
+  pub part : Kind → List ℕ → List ℕ
+  pub share : Kind → ℕ → ℕ
+  pub clear : ℕ → List ℕ → List ℕ
+  pub parted : (kind : Kind) (payload : List ℕ) → length (part kind payload) ≡ share kind (length payload)
+  pub keeps : (tag : ℕ) (payload : List ℕ) → length (clear tag payload) ≡ length payload
+
+-- what a chunk gives to the stream
+abbrev pub pieceOf : Stream → List ℕ → Chunk → List ℕ
+pieceOf stream container chunk = stream .clear (chunk .tag) (stream .part (chunk .kind) (payloadOf container chunk))
+
+-- the stream from a place of the container on
+abbrev pub streamFrom : Stream → List ℕ → Reading → ℕ → List ℕ
+streamFrom stream container reading c = joined (pieceOf stream container) (walkFrom container reading c .chunks)
+
+-- ---- video and audio
+
+pub video-parted : (kind : Kind) (payload : List ℕ) → length (videoPart kind payload) ≡ videoIn kind (length payload)
+video-parted Video payload = refl
+video-parted Audio payload = refl
+video-parted Other payload = refl
+video-parted End payload = refl
+
+pub audio-parted : (kind : Kind) (payload : List ℕ) → length (audioPart kind payload) ≡ audioIn kind (length payload)
+audio-parted Video payload = refl
+audio-parted Audio payload = refl
+audio-parted Other payload = refl
+audio-parted End payload = refl
+
+either-length : (t : Bool) (plain payload : List ℕ) → length plain ≡ length payload → length (cond t plain payload) ≡ length payload
+either-length true plain payload e = e
+either-length false plain payload e = refl
+
+pub video-keeps : (by : Unmasking) (tag : ℕ) (payload : List ℕ) → length (clearVideo by tag payload) ≡ length payload
+video-keeps by tag payload =
+    either-length (isMasked (by .video) tag) (unmaskedVideo (by .keys) payload) payload (video-length (by .keys) payload)
+
+pub audio-keeps : (by : Unmasking) (tag : ℕ) (payload : List ℕ) → length (clearAudio by tag payload) ≡ length payload
+audio-keeps by tag payload =
+    either-length (isMasked (by .audio) tag) (maskedAudio (by .keys) payload) payload (audio-length (by .keys) payload)
+
+abbrev pub videoUnder : Unmasking → Stream
+videoUnder by = record { part = videoPart; share = videoIn; clear = clearVideo by; parted = video-parted; keeps = video-keeps by }
+
+abbrev pub audioUnder : Unmasking → Stream
+audioUnder by = record { part = audioPart; share = audioIn; clear = clearAudio by; parted = audio-parted; keeps = audio-keeps by }
+
+-- ---- how long a stream is
+
+module _ (container : List ℕ) (reading : Reading) (c : ℕ) (chunk : Chunk) (e : chunkAt container reading c ≡ Found chunk) where
+  payload-length : length (payloadOf container chunk) ≡ chunk .len
+  payload-length =
+      let w = found container reading c chunk e in
+      let h : chunk .start + 0x20 + chunk .len ≤ length container = omega arith in
+      rw (le-leb (chunk .start + 0x20 + chunk .len) (length container) h)
+      (length-take-le (chunk .len) (drop (chunk .start + 0x20) container) (rw length-drop (omega arith)))
+
+  piece-length : (stream : Stream) → length (pieceOf stream container chunk) ≡ stream .share (chunk .kind) (chunk .len)
+  piece-length stream =
+      stream .keeps (chunk .tag) (stream .part (chunk .kind) (payloadOf container chunk))
+      ∙ stream .parted (chunk .kind) (payloadOf container chunk) ∙ rw payload-length
+
+module _ (stream : Stream) (container : List ℕ) (reading : Reading) where
+  abbrev Sized : List Chunk → Type 0
+  Sized chunks = length (joined (pieceOf stream container) chunks) ≡ sizeOf (stream .share) chunks
+
+  step-sized : (n c : ℕ) → ((d : ℕ) → Sized (walkFor container reading n d .chunks)) → (step : ChunkStep) → chunkAt container reading c ≡ step
+      → Sized (goOn step (walkFor container reading n) .chunks)
+  unfolding joined sizeOf
+  step-sized n c ih Over e = refl
+  step-sized n c ih (Found chunk) e =
+      length-append (pieceOf stream container chunk) (joined (pieceOf stream container) (walkFor container reading n (chunk .next) .chunks))
+      ∙ ap₂ (λ (x y : ℕ). x + y) (piece-length container reading c chunk e stream) (ih (chunk .next))
+  step-sized n c ih (Refused refusal) e = refl
+
+  sized : (n c : ℕ) → Sized (walkFor container reading n c .chunks)
+  unfolding walkFor joined sizeOf
+  sized zero c = refl
+  sized (suc n) c = step-sized n c (sized n) (chunkAt container reading c) refl
+
+  pub stream-length : (c : ℕ) → length (streamFrom stream container reading c) ≡ sizeOf (stream .share) (walkFrom container reading c .chunks)
+  unfolding walkFrom
+  stream-length c = sized _ c

@@ -1,0 +1,105 @@
+-- `extract::extract` meets its contract: the survey and two tests decide the answer, and only then are both streams written. Assumes nothing.
+use mathlib.Core.Path.{sym, _∙_}
+use Rattle.extract.proofs.AnswerLaws.{not-surveyed, oversized, short-output, both-fit, extracted-film}
+use borrow.Author.Needs.{needs}
+use Rattle.extract.proofs.extract.Statement.{statement}
+use Rattle.extract.proofs.extract.Tie as tie
+
+survey-requires : tie.Need-survey-requires
+survey-requires c κs = search needs
+
+enum-known-header : tie.Need-enum-known-header
+enum-known-header c = search needs
+
+exceed-requires : tie.Need-exceed-requires
+exceed-requires c κs = search needs
+
+refused-requires : tie.Need-refused-requires
+refused-requires c κs = search needs
+
+returns : tie.Need-returns
+returns c =
+    let test = c .before .before in
+    let film = test .before .before in
+    oversized _ _ _ _ _ _ _ _ _ (sym (film .before .before .survey .ensures) ∙ film .header .given .1) (sym (test .exceed .ensures) ∙ c .before .if1 .taken) _
+    (c .refused .ensures)
+
+lacks-requires : tie.Need-lacks-requires
+lacks-requires c κs = search needs
+
+refused-requires-2 : tie.Need-refused-requires-2
+refused-requires-2 c κs = search needs
+
+returns-2 : tie.Need-returns-2
+returns-2 c =
+    let room = c .before .before in
+    let test = room .before .before in
+    let film = test .before .before in
+    short-output _ _ _ _ _ _ _ _ _ (sym (film .before .before .survey .ensures) ∙ film .header .given .1) (sym (test .exceed .ensures) ∙ room .before .if1 .left)
+    (sym (room .lacks .ensures) ∙ c .before .if2 .taken) _ (c .refused2 .ensures)
+
+applied-to-requires : tie.Need-applied-to-requires
+applied-to-requires c κs = search needs
+
+unmasking-of-requires : tie.Need-unmasking-of-requires
+unmasking-of-requires c κs = search needs
+
+write-streams-requires : tie.Need-write-streams-requires
+write-streams-requires c κs =
+    let choice = c .before .before .before in
+    let room = choice .before .before in
+    let film = room .before .before .before .before in
+    both-fit _ _ _ _ _ _ (sym (film .before .before .survey .ensures) ∙ film .header .given .1) _ _
+    (sym (room .lacks .ensures) ∙ choice .before .if2 .left) _ (choice .applied-to .ensures)
+
+contents-of-requires : tie.Need-contents-of-requires
+contents-of-requires c κs = search needs
+
+enum-known-refusal : tie.Need-enum-known-refusal
+enum-known-refusal c = search needs
+
+same-length : tie.Need-same-length
+same-length c = search needs
+
+same-length-2 : tie.Need-same-length-2
+same-length-2 c = search needs
+
+returns-3 : tie.Need-returns-3
+returns-3 c =
+    let written = c .before .before .before .before .before in
+    let tables = written .before .before .before in
+    let choice = tables .before in
+    let room = choice .before .before in
+    let test = room .before .before in
+    let film = test .before .before in
+    extracted-film _ _ _ _ _ _ _ _ _ (sym (film .before .before .survey .ensures) ∙ film .header .given .1) (sym (test .exceed .ensures) ∙ room .before .if1 .left)
+    (sym (room .lacks .ensures) ∙ choice .before .if2 .left) _ (choice .applied-to .ensures) _ (tables .unmasking-of .ensures) _ (c .contents-of .ensures) _ _
+    (written .write-streams .ensures .0) (written .write-streams .ensures .1)
+
+returns-4 : tie.Need-returns-4
+returns-4 c =
+    let refused = c .before in
+    let surveyed = refused .before .before in
+    not-surveyed _ _ (surveyed .before .before .before .before .args .key) _ _ _ (sym (surveyed .survey .ensures) ∙ refused .refusal .given .1)
+
+pub extract-spec : {M : Type 1} → statement M
+extract-spec =
+    tie.close
+    (tie.spec
+    survey-requires
+    enum-known-header
+    exceed-requires
+    refused-requires
+    returns
+    lacks-requires
+    refused-requires-2
+    returns-2
+    applied-to-requires
+    unmasking-of-requires
+    write-streams-requires
+    contents-of-requires
+    enum-known-refusal
+    same-length
+    same-length-2
+    returns-3
+    returns-4)

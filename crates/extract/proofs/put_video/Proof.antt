@@ -1,0 +1,60 @@
+-- `extract::put_video` meets its contract: the payload is copied to its place and made clear there. Assumes nothing.
+use Rattle.extract.proofs.StreamLaws.{videoUnder}
+use Rattle.extract.proofs.PutLaws.{put-clear}
+use borrow.Author.Needs.{needs}
+use Rattle.extract.proofs.put_video.Statement.{statement}
+use Rattle.extract.proofs.put_video.Tie as tie
+
+add-end : tie.Need-add-end
+add-end c = search needs
+
+sub-copy : tie.Need-sub-copy
+sub-copy c = search needs
+
+part-copy-start : tie.Need-part-copy-start
+part-copy-start c = search needs
+
+part-copy-end : tie.Need-part-copy-end
+part-copy-end c = search needs
+
+copy-requires : tie.Need-copy-requires
+copy-requires c κs = search needs
+
+sub-clear-video : tie.Need-sub-clear-video
+sub-clear-video c = search needs
+
+part-clear-video-start : tie.Need-part-clear-video-start
+part-clear-video-start c = search needs
+
+part-clear-video-end : tie.Need-part-clear-video-end
+part-clear-video-end c = search needs
+
+clear-video-requires : tie.Need-clear-video-requires
+clear-video-requires c κs = search needs
+
+same-length : tie.Need-same-length
+same-length c = search needs
+
+returns : tie.Need-returns
+returns c =
+    let copied = c .before .before .before .before .before .before in
+    let start = copied .before .before .before .before in
+    let stream = videoUnder (start .args .unmasking) in
+    put-clear (stream .clear (start .args .tag)) (stream .keeps (start .args .tag)) (start .args .payload .now) _ _ _ (start .pre) (copied .copy .ensures .1) _
+    (c .before .before .clear-video .ensures)
+
+pub put-video-spec : {M : Type 1} → statement M
+put-video-spec =
+    tie.close
+    (tie.spec
+    add-end
+    sub-copy
+    part-copy-start
+    part-copy-end
+    copy-requires
+    sub-clear-video
+    part-clear-video-start
+    part-clear-video-end
+    clear-video-requires
+    same-length
+    returns)

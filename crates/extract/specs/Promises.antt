@@ -1,0 +1,69 @@
+-- What the mission promises of a whole film. Each is proved under the same name in proofs/Promises.antt.
+use Prim.Native.Nat.{ℕ, _+_, _%_, _≤_, _<_}
+use mathlib.Core.Path.{_≡_}
+use mathlib.Core.List.{List}
+use mathlib.Core.Bool.{cond, _&&_}
+use lib.ListN.{length}
+use lib.Dec.{leb, eqb}
+use Rattle.reading.specs.declared.Reading.{Reading}
+use Rattle.refusal.specs.declared.Refusal.{Refusal}
+use Rattle.codec.specs.declared.Codec.{Codec}
+use Rattle.key.specs.CountingBits.{AgreeWhereItCounts}
+use Rattle.mask.specs.Positions.{difference, videoDiffers, audioDiffers}
+use Rattle.mask.specs.Promises.{apart}
+use Rattle.chunk.specs.declared.Chunk.{Chunk}
+use Rattle.chunk.specs.Chunks.{payloadOf}
+use Rattle.clear.specs.declared.Key.{Key}
+use Rattle.clear.specs.declared.Key.the-variants.{Given}
+use Rattle.clear.specs.Unmasking.{isAdx, unmaskingOf}
+use Rattle.header.specs.declared.Header.{Header}
+use Rattle.film.specs.Films.{Film, filmOf, surveyOf}
+use Rattle.film.specs.declared.Surveyed.the-variants as survey
+use Rattle.extract.specs.declared.Extracted.{Extracted}
+use Rattle.extract.specs.declared.Extracted.the-variants as extracted
+use Rattle.extract.specs.Streams.{videoPart, audioPart, videoPiece, audioPiece}
+use Rattle.extract.specs.Extraction.{videoOf, audioOf, Extraction}
+
+-- "Over a container, no key and no lack of one changes a refusal, name, codec, size": two results that meet the contract on one container, into outputs of the same lengths, are one
+abbrev pub NoKeyChangesTheAnswer : Type 0
+NoKeyChangesTheAnswer =
+    (container : List ℕ) (reading : Reading) (key key′ : Key) (video audio video′ audio′ : List ℕ) (r r′ : Extracted) (videoAfter audioAfter videoAfter′ audioAfter′ : List ℕ)
+    → length video ≡ length video′ → length audio ≡ length audio′
+    → Extraction container reading key video audio r videoAfter audioAfter → Extraction container reading key′ video′ audio′ r′ videoAfter′ audioAfter′ → r ≡ r′
+
+-- "Every refusal leaves both outputs .. unchanged"
+abbrev pub RefusalsLeaveBothOutputs : Type 0
+RefusalsLeaveBothOutputs =
+    (container : List ℕ) (reading : Reading) (key : Key) (video audio videoAfter audioAfter : List ℕ) (refusal : Refusal)
+    → Extraction container reading key video audio (extracted.Refused refusal) videoAfter audioAfter → (videoAfter ≡ video) × (audioAfter ≡ audio)
+
+-- the sizes are those of the streams, under every key and under none
+abbrev pub SizesAreTheStreams : Type 0
+SizesAreTheStreams =
+    (container : List ℕ) (reading : Reading) (key : Key) (header : Header) (count video audio : ℕ) → surveyOf (filmOf container reading) ≡ survey.Film header count video audio
+    → (length (videoOf container key (filmOf container reading)) ≡ video) × (length (audioOf container key (filmOf container reading)) ≡ audio)
+
+-- "the two sizes together never exceed the container": 14 can't occur
+abbrev pub SizesFitTheContainer : Type 0
+SizesFitTheContainer =
+    (container : List ℕ) (reading : Reading) (header : Header) (count video audio : ℕ) → surveyOf (filmOf container reading) ≡ survey.Film header count video audio → video + audio ≤ length container
+
+-- keys that agree in bits 0 to 35 and 40 to 55 give the same streams of every film
+abbrev pub OneFilmWhereBitsAgree : Type 0
+OneFilmWhereBitsAgree =
+    (key key′ : ℕ) → AgreeWhereItCounts key key′ → (container : List ℕ) (f : Film)
+    → (videoOf container (Given key) f ≡ videoOf container (Given key′) f) × (audioOf container (Given key) f ≡ audioOf container (Given key′) f)
+
+-- the streams under two keys, payload by payload: a video payload of data type 0 and at least 0x240 bytes differs by D where document 01 says so, and nowhere else
+abbrev pub VideoDiffersPayloadByPayload : Type 0
+VideoDiffersPayloadByPayload =
+    (key key′ : ℕ) (codec : Codec) (container : List ℕ) (chunk : Chunk) (p : ℕ) → p < length (videoPart (chunk .kind) (payloadOf container chunk))
+    → apart (videoPiece container (unmaskingOf (Given key) codec) chunk) (videoPiece container (unmaskingOf (Given key′) codec) chunk) p
+    ≡ cond ((eqb (chunk .tag) 0 && leb 0x240 (length (videoPart (chunk .kind) (payloadOf container chunk)))) && videoDiffers p) (difference key key′ (p % 0x20)) 0
+
+-- and an audio payload of data type 0, of ADX sound
+abbrev pub AudioDiffersPayloadByPayload : Type 0
+AudioDiffersPayloadByPayload =
+    (key key′ : ℕ) (codec : Codec) (container : List ℕ) (chunk : Chunk) (p : ℕ) → p < length (audioPart (chunk .kind) (payloadOf container chunk))
+    → apart (audioPiece container (unmaskingOf (Given key) codec) chunk) (audioPiece container (unmaskingOf (Given key′) codec) chunk) p
+    ≡ cond ((isAdx codec && eqb (chunk .tag) 0) && audioDiffers p) (difference key key′ (p % 0x20)) 0

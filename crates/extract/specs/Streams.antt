@@ -1,0 +1,40 @@
+-- Document 01, "Chunks": "`@SFV` payloads go to video, `@SFA` to audio". A stream is what its payloads give, one after the other.
+use mathlib.Core.List.{List, [], _∷_, _++_}
+use Prim.Native.Nat.{ℕ}
+use Rattle.chunk.specs.declared.Chunk.{Chunk}
+use Rattle.chunk.specs.declared.Kind.{Kind}
+use Rattle.chunk.specs.declared.Kind.the-variants.{Video, Audio, Other, End}
+use Rattle.chunk.specs.Chunks.{payloadOf}
+use Rattle.clear.specs.declared.Unmasking.{Unmasking}
+use Rattle.clear.specs.Unmasking.{clearVideo, clearAudio}
+
+-- a payload's share in a stream
+abbrev pub videoPart : Kind → List ℕ → List ℕ
+videoPart Video payload = payload
+videoPart Audio payload = []
+videoPart Other payload = []
+videoPart End payload = []
+
+abbrev pub audioPart : Kind → List ℕ → List ℕ
+audioPart Video payload = []
+audioPart Audio payload = payload
+audioPart Other payload = []
+audioPart End payload = []
+
+-- what a chunk gives to a stream, clear
+abbrev pub videoPiece : List ℕ → Unmasking → Chunk → List ℕ
+videoPiece container by chunk = clearVideo by (chunk .tag) (videoPart (chunk .kind) (payloadOf container chunk))
+
+abbrev pub audioPiece : List ℕ → Unmasking → Chunk → List ℕ
+audioPiece container by chunk = clearAudio by (chunk .tag) (audioPart (chunk .kind) (payloadOf container chunk))
+
+-- the pieces of all chunks, one after the other
+unfoldable pub joined : (Chunk → List ℕ) → List Chunk → List ℕ
+joined piece [] = []
+joined piece (chunk ∷ chunks) = piece chunk ++ joined piece chunks
+
+abbrev pub videoStream : List ℕ → Unmasking → List Chunk → List ℕ
+videoStream container by = joined (videoPiece container by)
+
+abbrev pub audioStream : List ℕ → Unmasking → List Chunk → List ℕ
+audioStream container by = joined (audioPiece container by)

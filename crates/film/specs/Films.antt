@@ -1,0 +1,43 @@
+-- Document 01, "Refusal numbers": a container as a whole. "11 comes first; then the walk's first refusal in reading order".
+use mathlib.Core.List.{List}
+use Prim.Native.Nat.{ℕ}
+use lib.ListN.{length}
+use Rattle.refusal.specs.declared.Refusal.{Refusal}
+use Rattle.reading.specs.declared.Reading.{Reading}
+use Rattle.reading.specs.Choices.{appliedTo}
+use Rattle.chunk.specs.declared.Chunk.{Chunk}
+use Rattle.walk.specs.Walks.{Walk, Ending, clean, stopped, walkFrom, videoSize, audioSize}
+use Rattle.header.specs.declared.Header.{Header}
+use Rattle.header.specs.declared.HeaderAnswer.{HeaderAnswer}
+use Rattle.header.specs.declared.HeaderAnswer.the-variants as answer
+use Rattle.header.specs.Headers.{headerOf}
+use Rattle.film.specs.declared.Surveyed.{Surveyed}
+use Rattle.film.specs.declared.Surveyed.the-variants as survey
+
+-- a film that is read: its header and its chunks. Or the refusal
+pub data Film : Type 0 where
+  film : Header → List Chunk → Film
+  refused : Refusal → Film
+
+abbrev pub endedAs : Header → List Chunk → Ending → Film
+endedAs header chunks clean = film header chunks
+endedAs header chunks (stopped refusal) = refused refusal
+
+abbrev pub walkedAs : Header → Walk → Film
+walkedAs header w = endedAs header (w .chunks) (w .ending)
+
+-- the chunks from where the header says that they begin; audio is taken "if present and chosen"
+unfoldable pub filmFrom : List ℕ → Reading → Header → Film
+filmFrom container reading header = walkedAs header (walkFrom container (appliedTo (header .audio) reading) (header .chunks))
+
+abbrev pub afterHeader : (Header → Film) → HeaderAnswer → Film
+afterHeader k (answer.Read header) = k header
+afterHeader k (answer.Refused refusal) = refused refusal
+
+unfoldable pub filmOf : List ℕ → Reading → Film
+filmOf container reading = afterHeader (filmFrom container reading) (headerOf container)
+
+-- count and sizes are sums over the chunks
+abbrev pub surveyOf : Film → Surveyed
+surveyOf (film header chunks) = survey.Film header (length chunks) (videoSize chunks) (audioSize chunks)
+surveyOf (refused refusal) = survey.Refused refusal

@@ -1,0 +1,51 @@
+// A film: what its header says, and its chunks from where the header ends, measured.
+// Document 01, "Refusal numbers": 11 first, "then the walk's first refusal in reading order".
+// From the Rust: `extract_usm_to_memory`, up to where it takes the bytes.
+ghost use mathlib.Core.Path.{_≡_};
+ghost use Rattle.film.specs.Films.{surveyOf, filmFrom, filmOf};
+use header::Header;
+use header::HeaderAnswer;
+use reading::Reading;
+use refusal::Refusal;
+use walk::Measured;
+
+// What is known of a film before a byte of its streams is taken.
+pub enum Surveyed {
+    Film {
+        header: Header,
+        count: usize,
+        video: usize,
+        audio: usize,
+    },
+    Refused(Refusal),
+}
+
+// A film's chunks, measured from where its header ends.
+fn measure_chunks(container: &[u8], header: Header, reading: Reading) -> Surveyed
+    ensures { λ r. ⌜ r ≡ surveyOf (filmFrom (now (container .entry)) reading header) ⌝ }
+{
+    let applied = reading::applied_to(header.audio, reading);
+    match walk::measure(container, header.chunks, applied) {
+        Measured::Sizes {
+            count,
+            video,
+            audio,
+        } => Surveyed::Film {
+            header,
+            count,
+            video,
+            audio,
+        },
+        Measured::Stopped(refusal) => Surveyed::Refused(refusal),
+    }
+}
+
+// A film's header, the count of its chunks and both sizes, or why it is refused.
+pub fn survey(container: &[u8], reading: Reading) -> Surveyed
+    ensures { λ r. ⌜ r ≡ surveyOf (filmOf (now (container .entry)) reading) ⌝ }
+{
+    match header::read_header(container) {
+        HeaderAnswer::Read(header) => measure_chunks(container, header, reading),
+        HeaderAnswer::Refused(refusal) => Surveyed::Refused(refusal),
+    }
+}

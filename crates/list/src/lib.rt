@@ -1,0 +1,204 @@
+// A listing of a film's chunks: what it answers, and each chunk as a record of plain numbers. Document 01, "Chunks".
+// No function of the Rust lists chunks; its `read_chunk_header` reads one. `usm` fills the lent list by what is here.
+ghost use mathlib.Core.Path.{_≡_};
+ghost use Rattle.film.specs.Films.{surveyOf, filmOf};
+ghost use Rattle.reading.specs.Choices.{readingBy};
+ghost use Rattle.list.specs.Listing.{listedIn, listNumber, listCount, recordOf};
+ghost use Rattle.list.specs.Filling.{hearing, startIn, heardIn, planOf, noRecord, stepAt};
+use chunk::Chunk;
+use chunk::ChunkStep;
+use film::Surveyed;
+use reading::AudioChoice;
+use reading::Reading;
+use refusal::Cause;
+use refusal::Refusal;
+
+// A chunk as plain numbers: its start, the number of its kind, its data type, its payload's length.
+#[repr(C)]
+pub struct ChunkRecord {
+    pub start: usize,
+    pub kind: u8,
+    pub tag: u8,
+    pub len: usize,
+}
+
+// What a listing answers: how many chunks there are, or why it is refused.
+pub enum Listed {
+    Count(usize),
+    Refused(Refusal),
+}
+
+// What a filler of a lent list goes by: the number that it gives, how many records it makes, from which place on,
+// and whether audio is taken.
+pub struct Plan {
+    pub number: u8,
+    pub count: usize,
+    pub start: usize,
+    pub heard: bool,
+}
+
+// A record, and where the next chunk starts.
+pub struct RecordStep {
+    pub made: ChunkRecord,
+    pub next: usize,
+}
+
+// What a listing into a list of so many records answers on a film.
+fn listed_in(room: usize, survey: Surveyed) -> Listed
+    ensures { λ r. ⌜ r ≡ listedIn room survey ⌝ }
+{
+    match survey {
+        Surveyed::Film {
+            header: _,
+            count,
+            video: _,
+            audio: _,
+        } => {
+            if room < count {
+                return Listed::Refused(Refusal {
+                    cause: Cause::ShortList(count),
+                    place: 0,
+                });
+            }
+            Listed::Count(count)
+        }
+        Surveyed::Refused(refusal) => Listed::Refused(refusal),
+    }
+}
+
+// What a listing into a list of so many records answers.
+pub fn list_answer(container: &[u8], reading: Reading, room: usize) -> Listed
+    ensures { λ r. ⌜ r ≡ listedIn room (surveyOf (filmOf (now (container .entry)) reading)) ⌝ }
+{
+    listed_in(room, film::survey(container, reading))
+}
+
+// The number of an answer: the refusal's, 0 where there is none.
+pub fn list_number(answer: Listed) -> u8
+    ensures { λ r. ⌜ r ≡ listNumber answer ⌝ }
+{
+    match answer {
+        Listed::Count(_) => 0,
+        Listed::Refused(refusal) => {
+            let cause = refusal.cause;
+            refusal::number_of(cause)
+        }
+    }
+}
+
+// How many records there are to make: none where the listing is refused.
+pub fn list_count(answer: Listed) -> usize
+    ensures { λ r. ⌜ r ≡ listCount answer ⌝ }
+{
+    match answer {
+        Listed::Count(count) => count,
+        Listed::Refused(_) => 0,
+    }
+}
+
+// Where a film's chunks begin; 0 where it is refused.
+fn start_in(survey: Surveyed) -> usize
+    ensures { λ r. ⌜ r ≡ startIn survey ⌝ }
+{
+    match survey {
+        Surveyed::Film {
+            header,
+            count: _,
+            video: _,
+            audio: _,
+        } => header.chunks,
+        Surveyed::Refused(_) => 0,
+    }
+}
+
+// Whether a film's audio is taken.
+fn heard_in(reading: Reading, survey: Surveyed) -> bool
+    ensures { λ r. ⌜ r ≡ heardIn reading survey ⌝ }
+{
+    match survey {
+        Surveyed::Film {
+            header,
+            count: _,
+            video: _,
+            audio: _,
+        } => {
+            let choice = reading.audio;
+            if header.audio {
+                return reading::is_chosen(choice);
+            }
+            false
+        }
+        Surveyed::Refused(_) => false,
+    }
+}
+
+// What a filler of a list of so many records goes by. Audio is asked for by every number but 0.
+pub fn list_plan(container: &[u8], audio: u8, room: usize) -> Plan
+    ensures { λ r. ⌜ r ≡ planOf room (readingBy audio) (surveyOf (filmOf (now (container .entry)) (readingBy audio))) ⌝ }
+{
+    let reading = reading::reading_by(audio);
+    let survey = film::survey(container, reading);
+    let answer = listed_in(room, survey);
+    Plan {
+        number: list_number(answer),
+        count: list_count(answer),
+        start: start_in(survey),
+        heard: heard_in(reading, survey),
+    }
+}
+
+// The reading that takes audio or not.
+fn hearing_of(heard: bool) -> Reading
+    ensures { λ r. ⌜ r ≡ hearing heard ⌝ }
+{
+    if heard {
+        return Reading {
+            audio: AudioChoice::Chosen,
+        };
+    }
+    Reading {
+        audio: AudioChoice::NotChosen,
+    }
+}
+
+// The record of a chunk.
+fn record_of(chunk: Chunk) -> ChunkRecord
+    ensures { λ r. ⌜ r ≡ recordOf chunk ⌝ }
+{
+    let kind = chunk.kind;
+    ChunkRecord {
+        start: chunk.start,
+        kind: chunk::kind_number(kind),
+        tag: chunk.tag,
+        len: chunk.len,
+    }
+}
+
+// No record, where there is no chunk.
+fn no_record() -> RecordStep
+    ensures { λ r. ⌜ r ≡ noRecord ⌝ }
+{
+    RecordStep {
+        made: ChunkRecord {
+            start: 0,
+            kind: 0,
+            tag: 0,
+            len: 0,
+        },
+        next: 0,
+    }
+}
+
+// The record of the chunk at a place, and where the next one starts.
+pub fn record_at(container: &[u8], place: usize, heard: bool) -> RecordStep
+    ensures { λ r. ⌜ r ≡ stepAt (now (container .entry)) heard place ⌝ }
+{
+    match chunk::chunk_at(container, place, hearing_of(heard)) {
+        ChunkStep::Over => no_record(),
+        ChunkStep::Found(chunk) => RecordStep {
+            made: record_of(chunk),
+            next: chunk.next,
+        },
+        ChunkStep::Refused(_) => no_record(),
+    }
+}

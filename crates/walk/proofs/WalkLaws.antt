@@ -1,0 +1,103 @@
+-- A walk goes by steps, whatever number of chunks its definition allows: each chunk leaves fewer bytes. And what it comes to fits the bytes that are left.
+-- Assumes nothing.
+use mathlib.Core.Path.{_≡_, refl, sym, ap, _∙_}
+use mathlib.Core.List.{List, []}
+use Prim.Native.Nat.{ℕ, zero, suc, _+_, _-_, _≤_, _<_}
+use native.Mathlib.Omega.{arith}
+use lib.ListN.{length}
+use Rattle.refusal.specs.declared.Refusal.{Refusal}
+use Rattle.reading.specs.declared.Reading.{Reading}
+use Rattle.chunk.specs.declared.Kind.{Kind}
+use Rattle.chunk.specs.declared.Kind.the-variants.{Video, Audio, Other, End}
+use Rattle.chunk.specs.declared.Chunk.{Chunk}
+use Rattle.chunk.specs.declared.ChunkStep.{ChunkStep}
+use Rattle.chunk.specs.declared.ChunkStep.the-variants.{Over, Found, Refused}
+use Rattle.chunk.specs.Chunks.{chunkAt}
+use Rattle.chunk.proofs.CaseLaws.{over}
+use Rattle.chunk.proofs.FoundLaws.{found}
+use Rattle.walk.specs.Walks.{Walk, clean, stopped, onto, goOn, walkFor, walkFrom, videoIn, audioIn, sizeOf, videoSize, audioSize}
+
+-- each chunk leaves fewer bytes
+pub falls : (container : List ℕ) (reading : Reading) (c : ℕ) (chunk : Chunk) → chunkAt container reading c ≡ Found chunk → length container - chunk .next < length container - c
+falls container reading c chunk e = let w = found container reading c chunk e in omega arith
+
+module _ (container : List ℕ) (reading : Reading) where
+  -- two numbers of chunks that are no less than the bytes left give one walk
+  abbrev Same : ℕ → ℕ → Type 0
+  Same m n = (c : ℕ) → length container - c ≤ m → length container - c ≤ n → walkFor container reading m c ≡ walkFor container reading n c
+
+  step-same : (m n c : ℕ) → Same m n → length container - c ≤ suc m → length container - c ≤ suc n
+      → (step : ChunkStep) → chunkAt container reading c ≡ step → goOn step (walkFor container reading m) ≡ goOn step (walkFor container reading n)
+  step-same m n c ih h k Over e = refl
+  step-same m n c ih h k (Found chunk) e =
+      let f = falls container reading c chunk e in
+      ap (onto chunk) (ih (chunk .next) (omega arith) (omega arith))
+  step-same m n c ih h k (Refused refusal) e = refl
+
+  none-left : (n c : ℕ) → length container - c ≤ 0 → walkFor container reading n c ≡ walkFor container reading 0 c
+  unfolding walkFor
+  none-left zero c h = refl
+  none-left (suc n) c h = ap (λ (step : ChunkStep). goOn step (walkFor container reading n)) (sym (over container reading c (omega arith)))
+
+  same : (m n : ℕ) → Same m n
+  unfolding walkFor
+  same zero n c h k = sym (none-left n c h)
+  same (suc m) zero c h k = none-left (suc m) c k
+  same (suc m) (suc n) c h k = step-same m n c (same m n) h k (chunkAt container reading c) refl
+
+  rest : (c : ℕ) (step : ChunkStep) → chunkAt container reading c ≡ step → goOn step (walkFor container reading (length container)) ≡ goOn step (walkFrom container reading)
+  unfolding walkFrom
+  rest c Over e = refl
+  rest c (Found chunk) e = ap (onto chunk) (same (length container) (length container - chunk .next) (chunk .next) (omega arith) (omega arith))
+  rest c (Refused refusal) e = refl
+
+  -- the law that a walker goes by
+  pub walk-step : (c : ℕ) → walkFrom container reading c ≡ goOn (chunkAt container reading c) (walkFrom container reading)
+  unfolding walkFrom walkFor
+  walk-step c = same (length container - c) (suc (length container)) c (omega arith) (omega arith) ∙ rest c (chunkAt container reading c) refl
+
+  pub walk-over : (c : ℕ) → chunkAt container reading c ≡ Over → walkFrom container reading c ≡ record { chunks = []; ending = clean }
+  walk-over c e = walk-step c ∙ ap (λ (step : ChunkStep). goOn step (walkFrom container reading)) e
+
+  pub walk-found : (c : ℕ) (chunk : Chunk) → chunkAt container reading c ≡ Found chunk → walkFrom container reading c ≡ onto chunk (walkFrom container reading (chunk .next))
+  walk-found c chunk e = walk-step c ∙ ap (λ (step : ChunkStep). goOn step (walkFrom container reading)) e
+
+  pub walk-refused : (c : ℕ) (refusal : Refusal) → chunkAt container reading c ≡ Refused refusal → walkFrom container reading c ≡ record { chunks = []; ending = stopped refusal }
+  walk-refused c refusal e = walk-step c ∙ ap (λ (step : ChunkStep). goOn step (walkFrom container reading)) e
+
+-- ---- what a walk comes to fits the bytes that are left
+
+-- a payload goes to one stream at most
+both-in : (kind : Kind) (n : ℕ) → videoIn kind n + audioIn kind n ≤ n
+both-in Video n = omega arith
+both-in Audio n = omega arith
+both-in Other n = omega arith
+both-in End n = omega arith
+
+abbrev Fits : ℕ → Walk → Type 0
+Fits left walk = (videoSize (walk .chunks) + audioSize (walk .chunks) ≤ left) × (length (walk .chunks) ≤ left)
+
+module _ (container : List ℕ) (reading : Reading) where
+  step-fits : (n c : ℕ) → ((d : ℕ) → Fits (length container - d) (walkFor container reading n d)) → (step : ChunkStep) → chunkAt container reading c ≡ step
+      → Fits (length container - c) (goOn step (walkFor container reading n))
+  unfolding sizeOf
+  step-fits n c ih Over e = omega arith
+  step-fits n c ih (Found chunk) e =
+      let w = found container reading c chunk e in
+      let b = both-in (chunk .kind) (chunk .len) in
+      let r = ih (chunk .next) in
+      (omega arith, omega arith)
+  step-fits n c ih (Refused refusal) e = omega arith
+
+  fits : (n c : ℕ) → Fits (length container - c) (walkFor container reading n c)
+  unfolding walkFor sizeOf
+  fits zero c = omega arith
+  fits (suc n) c = step-fits n c (fits n) (chunkAt container reading c) refl
+
+  pub sizes-fit : (c : ℕ) → videoSize (walkFrom container reading c .chunks) + audioSize (walkFrom container reading c .chunks) ≤ length container - c
+  unfolding walkFrom
+  sizes-fit c = fits (length container - c) c .0
+
+  pub count-fits : (c : ℕ) → length (walkFrom container reading c .chunks) ≤ length container - c
+  unfolding walkFrom
+  count-fits c = fits (length container - c) c .1

@@ -1,0 +1,104 @@
+-- `walk::measure` meets its contract: what was added, with what the walk from here comes to, is what the whole walk comes to.
+-- Each chunk leaves fewer bytes, and sums that fit the container do not wrap. Assumes nothing.
+use mathlib.Core.Path.{sym, _∙_}
+use Prim.Native.Nat.{_-_}
+use native.Mathlib.Omega.{arith}
+use borrow.Author.Needs.{needs}
+use lib.ListN.{length}
+use Rattle.walk.proofs.WalkLaws.{falls}
+use Rattle.walk.proofs.SumLaws.{Sums, sums-start, sums-fit, sums-over, sums-found, sums-refused}
+use Rattle.walk.proofs.measure.Statement.{statement}
+use Rattle.walk.proofs.measure.Tie as tie
+
+abbrev Inv-loop : tie.InvT-loop
+Inv-loop container place reading at₀ count₀ video₀ audio₀ at count video audio = Sums container reading place at count video audio
+
+abbrev μ-loop : tie.MeasureT-loop
+μ-loop container place reading at₀ count₀ video₀ audio₀ at count video audio = length container - at
+
+loop-holds : tie.Need-loop-holds Inv-loop μ-loop
+loop-holds c = sums-start _ _ _
+
+chunk-at-requires : tie.Need-chunk-at-requires Inv-loop μ-loop
+chunk-at-requires c κs = search needs
+
+enum-told : tie.Need-enum-told Inv-loop μ-loop
+enum-told c = search needs
+
+returns : tie.Need-returns Inv-loop μ-loop
+returns c =
+    let s = c .before .before in
+    sums-over _ _ _ _ _ _ _ (s .before .loop .inv) (sym (s .chunk-at .ensures) ∙ c .enum-told .given .1)
+
+enum-known-chunk : tie.Need-enum-known-chunk Inv-loop μ-loop
+enum-known-chunk c = search needs
+
+add-count : tie.Need-add-count Inv-loop μ-loop
+add-count c =
+    let k = c .before in
+    let s = k .before .before in
+    let sums = sums-found _ _ _ _ _ _ _ (s .before .loop .inv) (k .chunk .given .0 .0) (sym (s .chunk-at .ensures) ∙ k .chunk .given .1) in
+    omega (arith, sums-fit _ _ _ _ _ _ _ sums)
+
+video-in-requires : tie.Need-video-in-requires Inv-loop μ-loop
+video-in-requires c κs = search needs
+
+add-video : tie.Need-add-video Inv-loop μ-loop
+add-video c =
+    let k = c .before .before in
+    let s = k .before .before in
+    let sums = sums-found _ _ _ _ _ _ _ (s .before .loop .inv) (k .chunk .given .0 .0) (sym (s .chunk-at .ensures) ∙ k .chunk .given .1) in
+    omega (arith, sums-fit _ _ _ _ _ _ _ sums)
+
+audio-in-requires : tie.Need-audio-in-requires Inv-loop μ-loop
+audio-in-requires c κs = search needs
+
+add-audio : tie.Need-add-audio Inv-loop μ-loop
+add-audio c =
+    let k = c .before .before .before in
+    let s = k .before .before in
+    let sums = sums-found _ _ _ _ _ _ _ (s .before .loop .inv) (k .chunk .given .0 .0) (sym (s .chunk-at .ensures) ∙ k .chunk .given .1) in
+    omega (arith, sums-fit _ _ _ _ _ _ _ sums)
+
+loop-less : tie.Need-loop-less Inv-loop μ-loop
+loop-less c =
+    let k = c .before .before .before in
+    let s = k .before .before in
+    falls _ _ _ _ (sym (s .chunk-at .ensures) ∙ k .chunk .given .1)
+
+loop-again : tie.Need-loop-again Inv-loop μ-loop
+loop-again c =
+    let k = c .before .before .before in
+    let s = k .before .before in
+    let sums = sums-found _ _ _ _ _ _ _ (s .before .loop .inv) (k .chunk .given .0 .0) (sym (s .chunk-at .ensures) ∙ k .chunk .given .1) in
+    rw (c .before .video-in .ensures, c .audio-in .ensures) sums
+
+enum-known-refusal : tie.Need-enum-known-refusal Inv-loop μ-loop
+enum-known-refusal c = search needs
+
+returns-2 : tie.Need-returns-2 Inv-loop μ-loop
+returns-2 c =
+    let k = c .before in
+    let s = k .before .before in
+    sums-refused _ _ _ _ _ _ _ (s .before .loop .inv) (k .refusal .given .0 .0) (sym (s .chunk-at .ensures) ∙ k .refusal .given .1)
+
+pub measure-spec : {M : Type 1} → statement M
+measure-spec =
+    tie.close
+    (tie.spec
+    Inv-loop
+    μ-loop
+    loop-holds
+    chunk-at-requires
+    enum-told
+    returns
+    enum-known-chunk
+    add-count
+    video-in-requires
+    add-video
+    audio-in-requires
+    add-audio
+    loop-less
+    loop-again
+    enum-known-refusal
+    returns-2)

@@ -1,0 +1,47 @@
+/*
+ * Writes small films for extract to try, and what it should find in one of them:
+ *
+ *     films FOLDER KEY  KEY in hex
+ *
+ * f.usm is example F of document 01, and cut.usm its first 428 bytes, which are refused. song.usm is a
+ * film with sound, masked under the key; song.video and song.audio are its two clear streams.
+ */
+#include "films.h"
+#include "usm.h"
+
+#include <stdio.h>
+#include <stdlib.h>
+
+/* Writes a file of a folder; a failure ends the program. */
+static void write_file(const char *folder, const char *name, const uint8_t *bytes, size_t len)
+{
+    char path[1024];
+    FILE *file;
+
+    snprintf(path, sizeof path, "%s/%s", folder, name);
+    file = fopen(path, "wb");
+    if (file == NULL || fwrite(bytes, 1, len, file) != len || fclose(file) != 0) {
+        perror(path);
+        exit(2);
+    }
+}
+
+int main(int argc, char **argv)
+{
+    static struct song song;
+    uint8_t f[F_BYTES];
+
+    if (argc != 3) {
+        fprintf(stderr, "usage: films FOLDER KEY\n");
+        return 2;
+    }
+    make_f(f);
+    write_file(argv[1], "f.usm", f, F_BYTES);
+    write_file(argv[1], "cut.usm", f, 428);
+
+    make_song(&song, strtoull(argv[2], NULL, 16));
+    write_file(argv[1], "song.usm", song.stored.bytes, song.stored.len);
+    write_file(argv[1], "song.video", song.video, song.video_len);
+    write_file(argv[1], "song.audio", song.audio, song.audio_len);
+    return 0;
+}
