@@ -1,0 +1,7 @@
+pub mod DecimalLaws
+pub mod PutLaws
+pub mod LineLaws
+pub mod TextLaws
+pub mod Promises
+pub mod OneAnswer
+pub mod Examples

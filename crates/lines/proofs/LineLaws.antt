@@ -1,0 +1,93 @@
+-- How long the lines are: a line is the sum of its pieces, and a container of at most 16,384 bytes has few enough of them.
+-- Chunks stand at least 8 bytes apart and a line has at most 20 bytes, so there are at most 5 bytes of text for 2 of the container. Assumes nothing.
+use mathlib.Core.Path.{_≡_, refl, ap}
+use mathlib.Core.List.{List, [], _∷_, _++_}
+use Prim.Native.Nat.{ℕ, zero, suc, _+_, _-_, _*_, _^_, _≤_, _<_}
+use native.Mathlib.Omega.{arith}
+use lib.ListN.{length, length-append}
+use Rattle.refusal.specs.declared.Refusal.{Refusal}
+use Rattle.refusal.specs.Numbers.{numberOf}
+use Rattle.reading.specs.declared.Reading.{Reading}
+use Rattle.chunk.specs.declared.Kind.{Kind}
+use Rattle.chunk.specs.declared.Kind.the-variants.{Video, Audio, Other, End}
+use Rattle.chunk.specs.declared.Chunk.{Chunk}
+use Rattle.chunk.specs.declared.ChunkStep.{ChunkStep}
+use Rattle.chunk.specs.declared.ChunkStep.the-variants.{Over, Found, Refused}
+use Rattle.chunk.specs.Chunks.{chunkAt}
+use Rattle.chunk.proofs.FoundLaws.{found}
+use Rattle.walk.specs.Walks.{Walk, goOn, walkFor, walkFrom}
+use Rattle.walk.proofs.WalkLaws.{walk-over, walk-found, walk-refused}
+use Rattle.lines.specs.Decimals.{decimal}
+use Rattle.lines.specs.Lines.{space, newline, numberThen, kindWord, lineOf, linesOf, refusalLine}
+use Rattle.lines.proofs.DecimalLaws.{decimal-short, decimal-fits}
+
+pub number-length : (after n : ℕ) → length (numberThen after n) ≡ length (decimal n) + 1
+unfolding numberThen
+number-length after n = length-append (decimal n) (after ∷ [])
+
+pub line-length : (chunk : Chunk) → length (lineOf chunk) ≡ length (numberThen space (chunk .start)) + length (kindWord (chunk .kind)) + length (numberThen space (chunk .tag)) + length (numberThen newline (chunk .len))
+unfolding lineOf
+line-length chunk = simp length-append
+
+pub refusal-length : (refusal : Refusal) → length (refusalLine refusal) ≡ 8 + length (numberThen space (numberOf (refusal .cause))) + 3 + length (numberThen newline (refusal .place))
+unfolding refusalLine
+refusal-length refusal = simp length-append
+
+-- any number has at most 20 digits
+pub number-fits : (after n : ℕ) → length (numberThen after n) ≤ 21
+number-fits after n = omega (arith, number-length after n, decimal-fits n)
+
+number-short : (after k n : ℕ) → n < 10 ^ suc k → length (numberThen after n) ≤ k + 2
+number-short after k n h = omega (arith, number-length after n, decimal-short k n h)
+
+word-short : (kind : Kind) → length (kindWord kind) ≤ 6
+word-short Video = omega arith
+word-short Audio = omega arith
+word-short Other = omega arith
+word-short End = omega arith
+
+-- of numbers below 100,000, and a data type
+line-short : (chunk : Chunk) → chunk .start < 100000 → chunk .tag < 10 → chunk .len < 100000 → length (lineOf chunk) ≤ 20
+line-short chunk s t l =
+    omega (arith, line-length chunk, number-short space 4 (chunk .start) s, word-short (chunk .kind), number-short space 0 (chunk .tag) t, number-short newline 4 (chunk .len) l)
+
+pub refusal-short : (refusal : Refusal) → length (refusalLine refusal) ≤ 53
+refusal-short refusal = omega (arith, refusal-length refusal, number-fits space (numberOf (refusal .cause)), number-fits newline (refusal .place))
+
+module _ (container : List ℕ) (reading : Reading) (limit : length container ≤ 16384) where
+  step-short : (n c : ℕ) → ((d : ℕ) → 2 * length (linesOf (walkFor container reading n d .chunks)) ≤ 5 * (length container - d))
+      → (step : ChunkStep) → chunkAt container reading c ≡ step
+      → 2 * length (linesOf (goOn step (walkFor container reading n) .chunks)) ≤ 5 * (length container - c)
+  unfolding linesOf
+  step-short n c ih Over e = omega arith
+  step-short n c ih (Found chunk) e =
+      let w = found container reading c chunk e in
+      let line = line-short chunk (omega arith) (omega arith) (omega arith) in
+      let more = ih (chunk .next) in
+      simp length-append (omega arith)
+  step-short n c ih (Refused refusal) e = omega arith
+
+  walk-short : (n c : ℕ) → 2 * length (linesOf (walkFor container reading n c .chunks)) ≤ 5 * (length container - c)
+  unfolding walkFor linesOf
+  walk-short zero c = omega arith
+  walk-short (suc n) c = step-short n c (walk-short n) (chunkAt container reading c) refl
+
+  pub lines-short : (c : ℕ) → length (linesOf (walkFrom container reading c .chunks)) ≤ 40960
+  unfolding walkFrom
+  lines-short c = omega (arith, walk-short (length container - c) c)
+
+-- ---- the lines from a place on, by what stands there
+
+module _ (container : List ℕ) (reading : Reading) (c : ℕ) where
+  pub lines-over : chunkAt container reading c ≡ Over → linesOf (walkFrom container reading c .chunks) ≡ []
+  unfolding linesOf
+  lines-over e = ap (λ (walk : Walk). linesOf (walk .chunks)) (walk-over container reading c e)
+
+  pub lines-found : (chunk : Chunk) → chunkAt container reading c ≡ Found chunk
+      → linesOf (walkFrom container reading c .chunks) ≡ lineOf chunk ++ linesOf (walkFrom container reading (chunk .next) .chunks)
+  unfolding linesOf
+  lines-found chunk e = ap (λ (walk : Walk). linesOf (walk .chunks)) (walk-found container reading c chunk e)
+
+  pub lines-refused : (refusal : Refusal) → chunkAt container reading c ≡ Refused refusal → linesOf (walkFrom container reading c .chunks) ≡ []
+  unfolding linesOf
+  lines-refused refusal e = ap (λ (walk : Walk). linesOf (walk .chunks)) (walk-refused container reading c refusal e)

@@ -1,0 +1,51 @@
+-- The promises of specs/Promises.antt, each under its name: the lines of a container of at most 16,384 bytes are short, and so is a refusal. Assumes nothing.
+use mathlib.Core.Path.{_≡_, refl}
+use mathlib.Core.List.{List}
+use mathlib.Core.Bool.{Bool, true, false, cond}
+use Prim.Native.Nat.{ℕ, _≤_}
+use native.Mathlib.Omega.{arith}
+use lib.ListN.{length}
+use lib.Dec.{ltb}
+use borrow.Author.Tests.{ltb-false}
+use Rattle.refusal.specs.declared.Cause.the-variants.{TooLong}
+use Rattle.reading.specs.declared.AudioChoice.the-variants.{Chosen}
+use Rattle.reading.specs.declared.Reading.{Reading}
+use Rattle.reading.specs.Choices.{appliedTo}
+use Rattle.chunk.specs.declared.Chunk.{Chunk}
+use Rattle.walk.specs.Walks.{Ending, clean, stopped, walkFrom}
+use Rattle.header.specs.declared.Header.{Header}
+use Rattle.header.specs.declared.HeaderAnswer.{HeaderAnswer}
+use Rattle.header.specs.declared.HeaderAnswer.the-variants as answer
+use Rattle.header.specs.Headers.{headerOf}
+use Rattle.film.specs.Films.{endedAs, filmFrom, afterHeader, filmOf}
+use Rattle.lines.specs.Lines.{linesOf, refusalLine, filmText, textOf}
+use Rattle.lines.specs.Promises as promised
+use Rattle.lines.proofs.LineLaws.{refusal-short, lines-short}
+
+ended : (header : Header) (chunks : List Chunk) (ending : Ending) → length (linesOf chunks) ≤ 65536 → length (filmText (endedAs header chunks ending)) ≤ 65536
+ended header chunks clean h = h
+ended header chunks (stopped refusal) h = omega (arith, refusal-short refusal)
+
+module _ (container : List ℕ) (reading : Reading) (limit : length container ≤ 16384) where
+  from-header : (header : Header) → length (filmText (filmFrom container reading header)) ≤ 65536
+  unfolding filmFrom
+  from-header header =
+      let walked = walkFrom container (appliedTo (header .audio) reading) (header .chunks) in
+      ended header (walked .chunks) (walked .ending) (omega (arith, lines-short container (appliedTo (header .audio) reading) limit (header .chunks)))
+
+  after : (a : HeaderAnswer) → length (filmText (afterHeader (filmFrom container reading) a)) ≤ 65536
+  after (answer.Read header) = from-header header
+  after (answer.Refused refusal) = omega (arith, refusal-short refusal)
+
+  of-film : length (filmText (filmOf container reading)) ≤ 65536
+  unfolding filmOf
+  of-film = after (headerOf container)
+
+by-length : (container : List ℕ) (t : Bool) → ltb 16384 (length container) ≡ t
+    → length (cond t (refusalLine (record { cause = TooLong; place = 0 })) (filmText (filmOf container (record { audio = Chosen })))) ≤ 65536
+by-length container true e = omega (arith, refusal-short (record { cause = TooLong; place = 0 }))
+by-length container false e = of-film container (record { audio = Chosen }) (ltb-false 16384 (length container) e)
+
+pub TextFits : promised.TextFits
+unfolding textOf
+TextFits container = by-length container (ltb 16384 (length container)) refl

@@ -1,0 +1,11 @@
+-- Document 01, "What is built": "lent outputs with capacities". Bytes that are put into one, as far as it goes.
+use mathlib.Core.Path.{_≡_}
+use mathlib.Core.List.{List}
+use Prim.Native.Nat.{ℕ, _+_}
+use lib.ListN.{length}
+use lib.Seq.{sets}
+
+-- bytes are put into an output from a place on, and end at another place; past the output's end nothing is put
+pub record Put (bytes before : List ℕ) (place : ℕ) (after : List ℕ) (end : ℕ) : Type 0 where
+  pub ends : end ≡ place + length bytes
+  pub holds : after ≡ sets before place bytes
