@@ -5,9 +5,8 @@ ghost use Prim.Native.Nat.{_≤_, _<_};
 ghost use lib.ListN.{length};
 
 mod answers;
-mod fields;
 
-use fields::Row;
+use fields::Number;
 
 // The longest table of the list.
 const MOST_TABLE: usize = 4096;
@@ -32,12 +31,12 @@ fn replay_query(line: &[u8], table: &[u8]) -> bool {
     if !fields::is_hex(&query[..gap], MOST_NAME) {
         return false;
     }
-    match fields::row_of(fields::rest_from(query, gap + 1)) {
-        Row::At(row) => {
+    match fields::number_of(fields::rest_from(query, gap + 1)) {
+        Number::Of(row) => {
             replay_cell(table, &query[..gap], row);
             true
         }
-        Row::NotARow => false,
+        Number::NotANumber => false,
     }
 }
 

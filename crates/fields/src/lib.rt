@@ -1,21 +1,21 @@
-// The list's lines and their fields: hex digits that stand for bytes, and a row's number.
+// The lines of a list and their fields: hex digits that stand for bytes, and decimal numbers.
+// No rule of this crate comes from the Rust: it serves the programs that replay recorded answers.
 ghost use Prim.Native.Nat.{_≤_, _<_};
 ghost use lib.ListN.{length};
 ghost use Rattle.io.specs.Counts.{Counts};
 
-// What a field is that should be a row.
-pub enum Row {
-    At(usize),
-    NotARow,
+// What a field is that should be a number.
+pub enum Number {
+    Of(usize),
+    NotANumber,
 }
 
-// The largest row that a query names.
-const MOST_ROW: usize = 0xFFFF_FFFF;
+// The largest number that a field writes.
+const MOST: usize = 0xFFFF_FFFF;
 
-// One past the line that starts at a place, and past its LF.
-pub(crate) fn next_line(list: &[u8], at: usize) -> usize
-    requires { ⌜ at < length (now list) ⌝ }
-    ensures { λ r. ⌜ (at < r) × (r ≤ length (now (list .entry))) ⌝ }
+// One past the line that starts at a place, and past its LF; the place itself where it is past the list's end.
+pub fn next_line(list: &[u8], at: usize) -> usize
+    ensures { λ r. ⌜ (at < length (now (list .entry)) → (at < r) × (r ≤ length (now (list .entry)))) ⌝ }
 {
     let mut i = at;
     while i < list.len() {
@@ -28,7 +28,7 @@ pub(crate) fn next_line(list: &[u8], at: usize) -> usize
 }
 
 // Whether a list has a line, and LF ends the last one.
-pub(crate) fn ends_in_line(list: &[u8]) -> bool {
+pub fn ends_in_line(list: &[u8]) -> bool {
     if list.len() == 0 {
         return false;
     }
@@ -36,7 +36,7 @@ pub(crate) fn ends_in_line(list: &[u8]) -> bool {
 }
 
 // Whether a line begins with a letter and a space.
-pub(crate) fn is_marked(line: &[u8], letter: u8) -> bool {
+pub fn is_marked(line: &[u8], letter: u8) -> bool {
     if line.len() < 2 {
         return false;
     }
@@ -47,7 +47,7 @@ pub(crate) fn is_marked(line: &[u8], letter: u8) -> bool {
 }
 
 // What stands on a line from a place on: nothing where it ends before.
-pub(crate) fn rest_from(line: &[u8], at: usize) -> &[u8] {
+pub fn rest_from(line: &[u8], at: usize) -> &[u8] {
     if line.len() < at {
         return &line[..0];
     }
@@ -55,7 +55,7 @@ pub(crate) fn rest_from(line: &[u8], at: usize) -> &[u8] {
 }
 
 // Where the first space of a text stands, or where the text ends.
-pub(crate) fn gap_in(text: &[u8]) -> usize
+pub fn gap_in(text: &[u8]) -> usize
     ensures { λ r. ⌜ Counts r (now (text .entry)) ⌝ }
 {
     let mut i = 0;
@@ -92,7 +92,7 @@ fn is_digits(text: &[u8]) -> bool {
 }
 
 // Whether a text stands for at most `most` bytes.
-pub(crate) fn is_hex(text: &[u8], most: usize) -> bool {
+pub fn is_hex(text: &[u8], most: usize) -> bool {
     if text.len() % 2 != 0 {
         return false;
     }
@@ -108,7 +108,7 @@ fn byte_of(high: u8, low: u8) -> u8 {
 }
 
 // Puts the bytes that a text stands for at the start of a buffer, as many as it holds, and answers how many.
-pub(crate) fn decode(text: &[u8], bytes: &mut [u8]) -> usize
+pub fn decode(text: &[u8], bytes: &mut [u8]) -> usize
     ensures { λ r. ⌜ Counts r (now (bytes .exit)) ⌝ }
 {
     let count = least(text.len() / 2, bytes.len());
@@ -137,23 +137,23 @@ fn wide(byte: u8) -> usize
     byte as usize
 }
 
-// The row that a text writes in decimal digits.
-pub(crate) fn row_of(text: &[u8]) -> Row {
+// The number that a text writes in decimal digits.
+pub fn number_of(text: &[u8]) -> Number {
     if text.len() == 0 {
-        return Row::NotARow;
+        return Number::NotANumber;
     }
-    let mut row = 0;
+    let mut number = 0;
     let mut i = 0;
     while i < text.len() {
         let digit = wide(digit_value(text[i]));
         if 9 < digit {
-            return Row::NotARow;
+            return Number::NotANumber;
         }
-        row = row * 10 + digit;
-        if MOST_ROW < row {
-            return Row::NotARow;
+        number = number * 10 + digit;
+        if MOST < number {
+            return Number::NotANumber;
         }
         i += 1;
     }
-    Row::At(row)
+    Number::Of(number)
 }

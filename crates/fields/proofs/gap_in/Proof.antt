@@ -1,15 +1,16 @@
--- `replay_tables::fields::next_line` meets its contract: the line goes on up to i. Assumes nothing.
-use Prim.Native.Nat.{_-_, _≤_, _<_}
-use lib.ListN.{length}
+-- `fields::gap_in` meets its contract: no space stands before i. Assumes nothing.
+use Prim.Native.Nat.{_-_, _≤_}
+use native.Mathlib.Omega.{arith}
+use lib.ListN.{length, length-take}
 use borrow.Author.Needs.{needs}
-use Rattle.replay_tables.proofs.fields.next_line.Statement.{statement}
-use Rattle.replay_tables.proofs.fields.next_line.Tie as tie
+use Rattle.fields.proofs.gap_in.Statement.{statement}
+use Rattle.fields.proofs.gap_in.Tie as tie
 
 abbrev Inv-loop : tie.InvT-loop
-Inv-loop list at i₀ i = (at < length list) × (at ≤ i) × (i ≤ length list)
+Inv-loop text i₀ i = i ≤ length text
 
 abbrev μ-loop : tie.MeasureT-loop
-μ-loop list at i₀ i = length list - i
+μ-loop text i₀ i = length text - i
 
 loop-holds : tie.Need-loop-holds Inv-loop μ-loop
 loop-holds c = search needs
@@ -17,11 +18,8 @@ loop-holds c = search needs
 shared-slice-read-if1 : tie.Need-shared-slice-read-if1 Inv-loop μ-loop
 shared-slice-read-if1 c = search needs
 
-add-result : tie.Need-add-result Inv-loop μ-loop
-add-result c = search needs
-
 returns : tie.Need-returns Inv-loop μ-loop
-returns c = search needs
+returns c = (search needs, simp length-take (omega arith))
 
 add-i : tie.Need-add-i Inv-loop μ-loop
 add-i c = search needs
@@ -33,17 +31,16 @@ loop-again : tie.Need-loop-again Inv-loop μ-loop
 loop-again c = search needs
 
 returns-2 : tie.Need-returns-2 Inv-loop μ-loop
-returns-2 c = search needs
+returns-2 c = (search needs, simp length-take (omega arith))
 
-pub next-line-spec : {M : Type 1} → statement M
-next-line-spec =
+pub gap-in-spec : {M : Type 1} → statement M
+gap-in-spec =
     tie.close
     (tie.spec
     Inv-loop
     μ-loop
     loop-holds
     shared-slice-read-if1
-    add-result
     returns
     add-i
     loop-less

@@ -1,9 +1,9 @@
--- `replay_tables::fields::is_digits` is safe and ends. Assumes nothing.
+-- `fields::is_digits` is safe and ends. Assumes nothing.
 use Prim.Native.Nat.{_-_, _≤_}
 use lib.ListN.{length}
 use borrow.Author.Needs.{needs}
-use Rattle.replay_tables.proofs.fields.is_digits.Statement.{statement}
-use Rattle.replay_tables.proofs.fields.is_digits.Tie as tie
+use Rattle.fields.proofs.is_digits.Statement.{statement}
+use Rattle.fields.proofs.is_digits.Tie as tie
 
 abbrev Inv-loop : tie.InvT-loop
 Inv-loop text i₀ i = i ≤ length text

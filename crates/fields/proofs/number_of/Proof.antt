@@ -1,9 +1,9 @@
--- `replay_tables::fields::row_of` is safe and ends: a row so far is no larger than the largest. Assumes nothing.
+-- `fields::number_of` is safe and ends: a row so far is no larger than the largest. Assumes nothing.
 use Prim.Native.Nat.{_-_, _≤_}
 use lib.ListN.{length}
 use borrow.Author.Needs.{needs}
-use Rattle.replay_tables.proofs.fields.row_of.Statement.{statement}
-use Rattle.replay_tables.proofs.fields.row_of.Tie as tie
+use Rattle.fields.proofs.number_of.Statement.{statement}
+use Rattle.fields.proofs.number_of.Tie as tie
 
 abbrev Inv-loop : tie.InvT-loop
 Inv-loop text row₀ i₀ row i = (row ≤ 0xFFFFFFFF) × (i ≤ length text)
@@ -29,11 +29,11 @@ wide-requires c κs = search needs
 returns-2 : tie.Need-returns-2 Inv-loop μ-loop
 returns-2 c = search needs
 
-mul-row : tie.Need-mul-row Inv-loop μ-loop
-mul-row c = search needs
+mul-number : tie.Need-mul-number Inv-loop μ-loop
+mul-number c = search needs
 
-add-row : tie.Need-add-row Inv-loop μ-loop
-add-row c = search needs
+add-number : tie.Need-add-number Inv-loop μ-loop
+add-number c = search needs
 
 returns-3 : tie.Need-returns-3 Inv-loop μ-loop
 returns-3 c = search needs
@@ -50,8 +50,8 @@ loop-again c = search needs
 returns-4 : tie.Need-returns-4 Inv-loop μ-loop
 returns-4 c = search needs
 
-pub row-of-spec : {M : Type 1} → statement M
-row-of-spec =
+pub number-of-spec : {M : Type 1} → statement M
+number-of-spec =
     tie.close
     (tie.spec
     Inv-loop
@@ -62,8 +62,8 @@ row-of-spec =
     digit-value-requires
     wide-requires
     returns-2
-    mul-row
-    add-row
+    mul-number
+    add-number
     returns-3
     add-i
     loop-less

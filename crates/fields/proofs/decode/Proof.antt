@@ -1,11 +1,11 @@
--- `replay_tables::fields::decode` meets its contract: both digits of each byte lie in the text. Assumes nothing.
+-- `fields::decode` meets its contract: both digits of each byte lie in the text. Assumes nothing.
 use Prim.Native.Nat.{_*_, _-_, _≤_}
 use mathlib.Core.Path.{_≡_}
 use native.Mathlib.Omega.{arith}
 use lib.ListN.{length, length-take}
 use borrow.Author.Needs.{needs}
-use Rattle.replay_tables.proofs.fields.decode.Statement.{statement}
-use Rattle.replay_tables.proofs.fields.decode.Tie as tie
+use Rattle.fields.proofs.decode.Statement.{statement}
+use Rattle.fields.proofs.decode.Tie as tie
 
 abbrev Inv-loop : tie.InvT-loop
 Inv-loop text bytes₀ count i₀ bytes i = (length bytes ≡ length bytes₀) × (count ≤ length bytes₀) × (2 * count ≤ length text) × (i ≤ count)
