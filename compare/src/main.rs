@@ -1,10 +1,12 @@
 //! Compares the exports of libplayer.a and libusm.a with the original Rust. `compare/run` builds and calls it:
-//!   compare check                   every answer against the original's
-//!   compare time                    both under one clock
-//!   compare record MASKS TABLES     the original's answers for the replay programs in these two folders
+//!   compare check [PART..]      every answer against the original's; a part is masks, tables or containers
+//!   compare time [PART..]       both under one clock
+//!   compare record FOLDER       the original's answers for the replay programs, in this folder of crates
+//! It calls itself for what may take gigabytes: compare ask AUDIO.
 
 mod clock;
 mod hex;
+mod lent;
 mod random;
 
 mod masks {
@@ -29,7 +31,6 @@ mod tables {
     pub mod header;
     pub mod hostile;
     pub mod layout;
-    pub mod lent;
     pub mod original;
     pub mod pointers;
     pub mod queries;
@@ -42,39 +43,114 @@ mod tables {
     pub mod timing;
 }
 
+mod containers {
+    pub mod answer;
+    pub mod call;
+    pub mod case;
+    pub mod check;
+    pub mod child;
+    pub mod compare;
+    pub mod damage;
+    pub mod domain;
+    pub mod exports;
+    pub mod film;
+    pub mod generate;
+    pub mod header_tables;
+    pub mod hostile;
+    pub mod large;
+    pub mod mistakes;
+    pub mod original;
+    pub mod outputs;
+    pub mod owed;
+    pub mod record;
+    pub mod rules;
+    pub mod samples;
+    pub mod script;
+    pub mod shrink;
+    pub mod table_rules;
+    pub mod tally;
+    pub mod timing;
+    pub mod walk_timing;
+    pub mod watch;
+}
+
+use std::fmt::Display;
 use std::io;
 use std::path::Path;
 use std::process::ExitCode;
+
+/// What is compared: the check, the timing, and the record for the gate's replay.
+struct Part {
+    name: &'static str,
+    check: fn() -> bool,
+    time: fn(),
+    record: fn(&Path) -> io::Result<()>,
+}
+
+static PARTS: [Part; 3] = [
+    Part {
+        name: "masks",
+        check: || report(masks::check::run(), |agreed| println!("{agreed} comparisons agreed")),
+        time: masks::timing::run,
+        record: masks::record::write,
+    },
+    Part {
+        name: "tables",
+        check: || report(tables::check::run(), |tally| tally.print()),
+        time: tables::timing::run,
+        record: tables::record::write,
+    },
+    Part {
+        name: "containers",
+        check: || report(containers::check::run(), |tally| tally.print()),
+        time: || {
+            containers::timing::run();
+            println!();
+            containers::walk_timing::run();
+        },
+        record: containers::record::write,
+    },
+];
 
 fn main() -> ExitCode {
     let words: Vec<String> = std::env::args().skip(1).collect();
     let words: Vec<&str> = words.iter().map(String::as_str).collect();
     match words[..] {
-        ["check"] => status(check_masks() && check_tables()),
-        ["time"] => {
-            masks::timing::run();
-            println!();
-            tables::timing::run();
+        ["check", ref names @ ..] if known(names) => status(chosen(names).all(|part| (part.check)())),
+        ["time", ref names @ ..] if known(names) => {
+            for part in chosen(names) {
+                (part.time)();
+                println!();
+            }
             ExitCode::SUCCESS
         }
-        ["record", masks, tables] => {
-            status(record(masks, masks::record::write) && record(tables, tables::record::write))
-        }
+        ["record", folder] => status(PARTS.iter().all(|part| record(part, Path::new(folder)))),
+        ["ask", audio] => status(containers::child::answer(audio == "1").is_ok()),
         _ => {
-            eprintln!("compare check | compare time | compare record MASKS TABLES");
+            eprintln!("compare check [PART..] | compare time [PART..] | compare record FOLDER");
             ExitCode::from(2)
         }
     }
+}
+
+fn known(names: &[&str]) -> bool {
+    names.iter().all(|name| PARTS.iter().any(|part| part.name == *name))
+}
+
+/// The parts of these names, or all where none is named.
+fn chosen(names: &[&str]) -> impl Iterator<Item = &'static Part> {
+    PARTS.iter().filter(|part| names.is_empty() || names.contains(&part.name))
 }
 
 fn status(success: bool) -> ExitCode {
     if success { ExitCode::SUCCESS } else { ExitCode::FAILURE }
 }
 
-fn check_masks() -> bool {
-    match masks::check::run() {
-        Ok(agreed) => {
-            println!("{agreed} comparisons agreed");
+/// Prints what a check has counted, or where it found a difference.
+fn report<T>(checked: Result<T, impl Display>, print: fn(T)) -> bool {
+    match checked {
+        Ok(counted) => {
+            print(counted);
             true
         }
         Err(disagreement) => {
@@ -84,27 +160,16 @@ fn check_masks() -> bool {
     }
 }
 
-fn check_tables() -> bool {
-    match tables::check::run() {
-        Ok(tally) => {
-            tally.print();
-            true
-        }
-        Err(disagreement) => {
-            println!("DISAGREEMENT: {disagreement}");
-            false
-        }
-    }
-}
-
-fn record(folder: &str, write: fn(&Path) -> io::Result<()>) -> bool {
-    match write(Path::new(folder)) {
+/// Writes `stdin` and `stdout` of a part's replay program, whose folder is replay_NAME.
+fn record(part: &Part, crates: &Path) -> bool {
+    let folder = crates.join(format!("replay_{}", part.name));
+    match (part.record)(&folder) {
         Ok(()) => {
-            println!("recorded: {folder}/stdin and {folder}/stdout");
+            println!("recorded: {0}/stdin and {0}/stdout", folder.display());
             true
         }
         Err(error) => {
-            eprintln!("{folder}: {error}");
+            eprintln!("{}: {error}", folder.display());
             false
         }
     }

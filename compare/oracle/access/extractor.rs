@@ -3,8 +3,8 @@
 /// The private functions behind calls that are never inlined into their caller, those of the masks
 /// each with its own `get_mask`, as an export has.
 pub mod access {
-    use super::{AudioMask, Reader, UsmError, UtfTable, VideoMask, io};
-    use std::io::SeekFrom;
+    use super::{AudioMask, Reader, UsmError, UsmHeaderInfo, UtfTable, VideoMask, io};
+    use std::io::{Read, Seek, SeekFrom};
 
     #[inline(never)]
     pub fn get_mask(key: u64) -> (VideoMask, AudioMask) {
@@ -29,5 +29,44 @@ pub mod access {
         let mut reader = Reader::new(io::Cursor::new(bytes));
         reader.seek(SeekFrom::Start(place))?;
         super::get_utf_table(&mut reader)
+    }
+
+    /// The raw name, whether there is audio, and both codecs. The reader is left at the first chunk.
+    #[inline(never)]
+    pub fn parse_usm_header<R: Read + Seek>(
+        reader: &mut Reader<R>,
+        fallback: &[u8],
+    ) -> Result<UsmHeaderInfo, UsmError> {
+        super::parse_usm_header(reader, fallback)
+    }
+
+    /// A chunk's header, as the original has it.
+    pub struct Chunk {
+        pub letters: [u8; 4],
+        pub next: u64,
+        pub block_size: u32,
+        pub header_size: u16,
+        pub footer_size: u16,
+        pub data_type: u8,
+        pub is_end: bool,
+    }
+
+    /// The chunk at a place, at which the reader must stand.
+    #[inline(never)]
+    pub fn read_chunk_header<R: Read + Seek>(reader: &mut Reader<R>, place: u64) -> Result<Option<Chunk>, UsmError> {
+        let header = super::read_chunk_header(reader, place)?;
+        Ok(header.map(|header| Chunk {
+            letters: header.sig,
+            next: header.next_offset,
+            block_size: header.block_size,
+            header_size: header.chunk_header_size,
+            footer_size: header.chunk_footer_size,
+            data_type: header.data_type,
+            is_end: header.contents_end,
+        }))
+    }
+
+    pub fn audio_ext(codec: Option<u32>) -> &'static str {
+        super::audio_ext(codec)
     }
 }

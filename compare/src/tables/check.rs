@@ -4,11 +4,12 @@ use std::fmt;
 
 use super::case::Case;
 use super::compare::compare;
-use super::exports::{SHORT, both_with_null};
+use super::exports::both_with_null;
 use super::shrink::shrink;
 use super::tally::Tally;
 use super::{damage, generate, original, samples};
 use crate::hex::hex;
+use crate::lent::SHORT;
 use crate::random::Random;
 
 const RANDOM_TABLES: u64 = 200_000;

@@ -5,12 +5,12 @@ use std::ops::Range;
 use super::answer::{Cell, Refusal};
 use super::case::Case;
 use super::exports::{self, CELL_WORDS, TABLE_WORDS};
-use super::lent::{lend, lend_short};
 use super::original::{self, Answer, Table};
 use super::queries::{self, Query};
 use super::tally::{Outcome, Seen};
 use super::{domain, header};
 use crate::hex::hex;
+use crate::lent::{lend, lend_short};
 
 /// What the original says where a table's size is below 24, which is refusal 9 here.
 const OVERFLOW: &str = "attempt to subtract with overflow";

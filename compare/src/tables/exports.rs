@@ -5,7 +5,6 @@ use std::ptr::{null, null_mut};
 /// The words that a call fixes. With fewer it gives `SHORT` and writes nothing.
 pub const TABLE_WORDS: usize = 5;
 pub const CELL_WORDS: usize = 6;
-pub const SHORT: u8 = 255;
 
 #[link(name = "usm", kind = "static")]
 unsafe extern "C" {

@@ -9,8 +9,8 @@ pub const BODY: u64 = 24;
 /// A number of the header: where it stands, and in how many bytes.
 #[derive(Clone, Copy)]
 pub struct Field {
-    at: usize,
-    width: usize,
+    pub at: usize,
+    pub width: usize,
 }
 
 pub const SIZE: Field = Field { at: 4, width: 4 };

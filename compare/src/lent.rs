@@ -1,9 +1,10 @@
 //! A report lent to a call, between guard words.
 
-use super::exports::SHORT;
+/// The answer where a report is too short.
+pub const SHORT: u8 = 255;
 
 const GUARD: usize = 4;
-const LONGEST: usize = 12;
+const LONGEST: usize = 20;
 
 /// Lends a report of `words` words and gives what the call answers and the first `fixed` of them.
 /// What may not change and did is told as an error.

@@ -1,0 +1,168 @@
+//! How a container is read in a call: audio, key, fallback name, and the room for what comes of it.
+
+use std::fmt;
+
+use super::exports::{EXTRACT_WORDS, How};
+use crate::hex::hex;
+use crate::random::Random;
+
+/// The bits of a key that count are 0 to 35 and 40 to 55.
+const IDLE: u64 = 0xFF00_00F0_0000_0000;
+
+#[derive(Clone)]
+pub struct Call {
+    /// Chosen, where it is not 0.
+    pub audio: u8,
+    /// The key counts, where it is not 0.
+    pub keyed: u8,
+    pub key: u64,
+    /// Bits of the key that do not count: the call is made again with them turned, and must do the same.
+    pub idle: u64,
+    pub fallback: Vec<u8>,
+    pub video: Room,
+    pub sound: Room,
+    pub list: Room,
+    /// Words of a report past its fixed ones.
+    pub longer: usize,
+    /// The words of a report that is too short.
+    pub short: usize,
+}
+
+/// How much room there is for what needs some.
+#[derive(Clone, Copy, PartialEq, Eq)]
+pub enum Room {
+    Exact,
+    OneLong,
+    OneShort,
+    Empty,
+}
+
+impl Room {
+    pub fn of(self, needed: usize) -> usize {
+        match self {
+            Room::Exact => needed,
+            Room::OneLong => needed + 1,
+            Room::OneShort => needed.saturating_sub(1),
+            Room::Empty => 0,
+        }
+    }
+
+    fn any(random: &mut Random) -> Room {
+        random.pick(&[Room::Exact, Room::Exact, Room::Exact, Room::OneLong, Room::OneLong, Room::OneShort, Room::Empty])
+    }
+}
+
+impl fmt::Display for Room {
+    fn fmt(&self, f: &mut fmt::Formatter) -> fmt::Result {
+        f.write_str(match self {
+            Room::Exact => "exact",
+            Room::OneLong => "one too long",
+            Room::OneShort => "one too short",
+            Room::Empty => "none",
+        })
+    }
+}
+
+impl Call {
+    /// The plainest call: no key, no fallback name, just enough room.
+    pub fn plain(audio: u8) -> Call {
+        Call {
+            audio,
+            keyed: 0,
+            key: 0,
+            idle: 0,
+            fallback: Vec::new(),
+            video: Room::Exact,
+            sound: Room::Exact,
+            list: Room::Exact,
+            longer: 0,
+            short: 0,
+        }
+    }
+
+    /// Any call.
+    pub fn any(audio: u8, random: &mut Random) -> Call {
+        let (keyed, key) = key(random);
+        Call {
+            audio,
+            keyed,
+            key,
+            idle: if random.one_in(4) { random.number() & IDLE } else { 0 },
+            fallback: fallback(random),
+            video: Room::any(random),
+            sound: Room::any(random),
+            list: Room::any(random),
+            longer: random.pick(&[0, 0, 3]),
+            short: random.within(0..EXTRACT_WORDS as u64) as usize,
+        }
+    }
+
+    /// Calls of both audio choices; in the first both outputs have the room they need.
+    pub fn some(random: &mut Random) -> Vec<Call> {
+        let chosen = random.pick(&[1, 1, 1, 2, 255]);
+        let roomy = Call { video: Room::Exact, sound: Room::OneLong, ..Call::any(chosen, random) };
+        vec![roomy, Call::any(chosen, random), Call::any(0, random)]
+    }
+
+    pub fn takes_audio(&self) -> bool {
+        self.audio != 0
+    }
+
+    /// The key that counts, if one does.
+    pub fn key(&self) -> Option<u64> {
+        (self.keyed != 0).then_some(self.key)
+    }
+
+    /// The same call in the words of the export; and once more where bits that do not count are turned.
+    pub fn ways(&self) -> Vec<How<'_>> {
+        let how = |key| How { audio: self.audio, keyed: self.keyed, key, fallback: &self.fallback };
+        let mut ways = vec![how(self.key)];
+        if self.idle != 0 {
+            ways.push(how(self.key ^ self.idle));
+        }
+        ways
+    }
+}
+
+/// No key (with a number that is not to be looked at), key 0, all ones, random ones.
+fn key(random: &mut Random) -> (u8, u64) {
+    let keyed = random.pick(&[1, 1, 2, 255]);
+    match random.within(0..8) {
+        0 | 1 => (0, random.number()),
+        2 => (keyed, 0),
+        3 => (keyed, u64::MAX),
+        4 => (keyed, 0x0000_1234_5678_9ABC),
+        _ => (keyed, random.number()),
+    }
+}
+
+fn fallback(random: &mut Random) -> Vec<u8> {
+    let length = random.pick(&[0, 1, 1, 300]);
+    random.bytes(length)
+}
+
+/// The arguments, without those that a plain call has.
+impl fmt::Display for Call {
+    fn fmt(&self, f: &mut fmt::Formatter) -> fmt::Result {
+        write!(f, "audio {}", self.audio)?;
+        match self.keyed {
+            0 => write!(f, ", no key")?,
+            keyed => write!(f, ", keyed {keyed}, key {:016X}", self.key)?,
+        }
+        if self.idle != 0 {
+            write!(f, " and {:016X}", self.key ^ self.idle)?;
+        }
+        if !self.fallback.is_empty() {
+            write!(f, ", fallback name {}", hex(&self.fallback))?;
+        }
+        for (what, room) in [("video", self.video), ("sound", self.sound), ("the list", self.list)] {
+            if room != Room::Exact {
+                write!(f, ", room for {what}: {room}")?;
+            }
+        }
+        if self.longer != 0 {
+            write!(f, ", reports longer by {}", self.longer)?;
+        }
+        Ok(())
+    }
+}

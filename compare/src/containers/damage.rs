@@ -1,0 +1,81 @@
+//! Damaged copies of a container: bytes changed, every cut, each size, offset and count at its edges.
+
+use super::call::Call;
+use super::case::Case;
+use super::rules::{self, INSIDE};
+use crate::random::Random;
+use crate::tables::header::{self, Field};
+
+/// Every damaged copy of a case, each with calls of its own.
+pub fn copies(case: &Case, random: &mut Random) -> Vec<Case> {
+    let mut copies: Vec<Case> = (0..case.length).flat_map(|at| changed_bytes(case, at, random)).collect();
+    copies.extend((0..case.length).map(|length| cut(case, length)));
+    copies.extend(fields(case).into_iter().flat_map(|(from, field)| edges(case, from, field)));
+    with_calls(copies, random)
+}
+
+/// One byte at all its other values.
+pub fn every_value(case: &Case, at: usize, random: &mut Random) -> Vec<Case> {
+    let others = (0..=u8::MAX).filter(|&byte| byte != case.whole[at]);
+    with_calls(others.map(|byte| changed_byte(case, at, byte)).collect(), random)
+}
+
+fn with_calls(mut cases: Vec<Case>, random: &mut Random) -> Vec<Case> {
+    for case in &mut cases {
+        case.calls = Call::some(random);
+    }
+    cases
+}
+
+/// One byte at its edges, with its first and last bit turned, and as any.
+fn changed_bytes(case: &Case, at: usize, random: &mut Random) -> Vec<Case> {
+    let byte = case.whole[at];
+    let others = [0, 0xFF, byte ^ 1, byte ^ 0x80, random.number() as u8];
+    others.into_iter().filter(|&other| other != byte).map(|other| changed_byte(case, at, other)).collect()
+}
+
+pub fn changed_byte(case: &Case, at: usize, byte: u8) -> Case {
+    let mut copy = case.clone();
+    copy.whole[at] = byte;
+    copy
+}
+
+/// The container ends here; what was cut off still stands after it, for whoever reads too far.
+pub fn cut(case: &Case, length: usize) -> Case {
+    Case { length, ..case.clone() }
+}
+
+/// The size of a block, and of a chunk those of header and footer and its data type.
+pub const SIZE: Field = Field { at: 4, width: 4 };
+const HEADER_SIZE: Field = Field { at: 8, width: 2 };
+const FOOTER_SIZE: Field = Field { at: 10, width: 2 };
+const DATA_TYPE: Field = Field { at: 15, width: 1 };
+
+/// The numbers of every block that is read and of the tables, each with the place from which it is told.
+fn fields(case: &Case) -> Vec<(usize, Field)> {
+    let mut fields = Vec::new();
+    for start in rules::read(case.container(), true).starts.into_iter().map(|start| start as usize) {
+        fields.extend([SIZE, HEADER_SIZE, FOOTER_SIZE, DATA_TYPE].map(|field| (start, field)));
+        let table = start + INSIDE as usize;
+        if case.container().get(table..).is_some_and(|rest| rest.starts_with(header::SIGNATURE)) {
+            fields.extend(header::FIELDS.map(|field| (table, field)));
+        }
+    }
+    fields.retain(|(from, field)| from + field.at + field.width <= case.length);
+    fields
+}
+
+fn edges(case: &Case, from: usize, field: Field) -> Vec<Case> {
+    let claimed = field.get(&case.whole[from..]);
+    let near = [1, 8].into_iter().flat_map(|step| [claimed.wrapping_sub(step), claimed.wrapping_add(step)]);
+    near.chain(EDGES).map(|number| with_field(case, from, field, number)).collect()
+}
+
+const EDGES: [u32; 15] =
+    [0, 1, 0x17, 0x18, 0x19, 0x20, 64, 65, 256, 257, 0xFFFF, 0x7FFF_FFFF, 0x8000_0000, u32::MAX - 8, u32::MAX];
+
+pub fn with_field(case: &Case, from: usize, field: Field, number: u32) -> Case {
+    let mut copy = case.clone();
+    field.set(&mut copy.whole[from..], number);
+    copy
+}
