@@ -1,0 +1,238 @@
+#define _GNU_SOURCE
+#include "catches.h"
+
+#include "../examples/films.h"
+#include "lent.h"
+
+#include <signal.h>
+#include <stdio.h>
+#include <stdlib.h>
+#include <string.h>
+#include <sys/wait.h>
+#include <unistd.h>
+
+#define PAYLOAD 0x260
+
+/* A table with one column, "id", which is a constant. */
+static const uint8_t TABLE[] = {'@', 'U', 'T', 'F', 0, 0, 0, 33, 0, 1, 0, 30, 0, 0, 0, 30, 0, 0, 0, 33, 0,
+                                0,   0,   0,   0,   1, 0, 0, 0,  0, 0, 1, 0x30, 0, 0, 0, 0, 7, 'i', 'd', 0};
+
+static struct memory read_only, second_read_only, written, second_written, report_memory;
+static struct chance chance;
+static struct song song;
+static uint8_t f[F_BYTES];
+
+/* A slice to be written that lacks some bytes of those that the call is told of. */
+static uint8_t *lacking(struct memory *memory, size_t len, size_t lacks)
+{
+    return lend_output(memory, ENDS, len - lacks, &chance).at;
+}
+
+static uint64_t *report_of(size_t words, size_t lacks)
+{
+    return (uint64_t *)(void *)lacking(&report_memory, 8 * words, 8 * lacks);
+}
+
+static const uint8_t *film_of(const uint8_t *bytes, size_t len, size_t lacks)
+{
+    return lend_bytes(&read_only, ENDS, bytes, len - lacks);
+}
+
+/* The calls. Each is told of one slice that is too long by `lacks`. */
+static void key_table(size_t lacks)
+{
+    usm_key_table(1, lacking(&written, USM_KEY_TABLE_BYTES, lacks), USM_KEY_TABLE_BYTES);
+}
+
+static void unmask_video(size_t lacks)
+{
+    usm_unmask_video(1, lacking(&written, PAYLOAD, lacks), PAYLOAD);
+}
+
+static void mask_video(size_t lacks)
+{
+    usm_mask_video(1, lacking(&written, PAYLOAD, lacks), PAYLOAD);
+}
+
+static void unmask_audio(size_t lacks)
+{
+    usm_unmask_audio(1, lacking(&written, PAYLOAD, lacks), PAYLOAD);
+}
+
+static void mask_audio(size_t lacks)
+{
+    usm_mask_audio(1, lacking(&written, PAYLOAD, lacks), PAYLOAD);
+}
+
+static void table(size_t lacks)
+{
+    usm_table(film_of(TABLE, sizeof TABLE, lacks), sizeof TABLE, 0, report_of(USM_TABLE_WORDS, 0), USM_TABLE_WORDS);
+}
+
+static void table_report(size_t lacks)
+{
+    usm_table(film_of(TABLE, sizeof TABLE, 0), sizeof TABLE, 0, report_of(USM_TABLE_WORDS, lacks), USM_TABLE_WORDS);
+}
+
+static void cell(size_t lacks)
+{
+    usm_cell(film_of(TABLE, sizeof TABLE, lacks), sizeof TABLE, 0, (const uint8_t *)"id", 2, 0,
+             report_of(USM_CELL_WORDS, 0), USM_CELL_WORDS);
+}
+
+static void cell_name(size_t lacks)
+{
+    usm_cell(film_of(TABLE, sizeof TABLE, 0), sizeof TABLE, 0,
+             lend_bytes(&second_read_only, ENDS, (const uint8_t *)"id", 2 - lacks), 2, 0, report_of(USM_CELL_WORDS, 0),
+             USM_CELL_WORDS);
+}
+
+static void cell_report(size_t lacks)
+{
+    usm_cell(film_of(TABLE, sizeof TABLE, 0), sizeof TABLE, 0, (const uint8_t *)"id", 2, 0,
+             report_of(USM_CELL_WORDS, lacks), USM_CELL_WORDS);
+}
+
+/* Extracts the song; the film, the video output, the audio output or the report is too long. */
+static void extract(size_t film, size_t video, size_t audio, size_t report)
+{
+    usm_extract(film_of(song.stored.bytes, song.stored.len, film), song.stored.len, 1, 1, 1, NULL, 0,
+                lacking(&written, song.video_len, video), song.video_len,
+                lacking(&second_written, song.audio_len, audio), song.audio_len, report_of(USM_FILM_WORDS, report),
+                USM_FILM_WORDS);
+}
+
+static void extract_film(size_t lacks)
+{
+    extract(lacks, 0, 0, 0);
+}
+
+static void extract_video(size_t lacks)
+{
+    extract(0, lacks, 0, 0);
+}
+
+static void extract_audio(size_t lacks)
+{
+    extract(0, 0, lacks, 0);
+}
+
+static void extract_report(size_t lacks)
+{
+    extract(0, 0, 0, lacks);
+}
+
+/* F without the bytes behind its last marker: the marker's last byte decides. */
+static void chunks(size_t lacks)
+{
+    usm_chunks(film_of(f, 429, lacks), 429, 1, 2, report_of(USM_LIST_WORDS, 0), USM_LIST_WORDS);
+}
+
+static void chunks_report(size_t lacks)
+{
+    usm_chunks(film_of(f, 429, 0), 429, 1, 2, report_of(USM_LIST_WORDS, lacks), USM_LIST_WORDS);
+}
+
+static void list(size_t lacks)
+{
+    usm_list(film_of(f, 429, lacks), 429, 1,
+             (struct usm_chunk *)(void *)lacking(&written, 2 * sizeof(struct usm_chunk), 0), 2);
+}
+
+static void list_records(size_t lacks)
+{
+    usm_list(film_of(f, 429, 0), 429, 1,
+             (struct usm_chunk *)(void *)lacking(&written, 2 * sizeof(struct usm_chunk), lacks * sizeof(struct usm_chunk)),
+             2);
+}
+
+/* A slice that begins at the page, and a call that begins before it. */
+static void before(size_t lacks)
+{
+    usm_key_table(1, lend_output(&written, BEGINS, USM_KEY_TABLE_BYTES, &chance).at - lacks, USM_KEY_TABLE_BYTES);
+}
+
+/* A payload in read-only memory, which may be read. */
+static void read_only_payload(size_t lacks)
+{
+    const uint8_t *payload = film_of(song.stored.bytes, PAYLOAD, 0);
+
+    usm_unmask_audio(1, (uint8_t *)payload, lacks == 0 ? 0x140 : PAYLOAD);
+}
+
+static const struct {
+    const char *what;
+    void (*call)(size_t lacks);
+} CATCHES[] = {
+    {"usm_key_table, the buffer", key_table},
+    {"usm_unmask_video, the payload", unmask_video},
+    {"usm_mask_video, the payload", mask_video},
+    {"usm_unmask_audio, the payload", unmask_audio},
+    {"usm_mask_audio, the payload", mask_audio},
+    {"usm_table, the bytes", table},
+    {"usm_table, the report", table_report},
+    {"usm_cell, the bytes", cell},
+    {"usm_cell, the name", cell_name},
+    {"usm_cell, the report", cell_report},
+    {"usm_extract, the container", extract_film},
+    {"usm_extract, the video output", extract_video},
+    {"usm_extract, the audio output", extract_audio},
+    {"usm_extract, the report", extract_report},
+    {"usm_chunks, the container", chunks},
+    {"usm_chunks, the report", chunks_report},
+    {"usm_list, the container", list},
+    {"usm_list, the list", list_records},
+    {"usm_key_table, one byte before the buffer", before},
+    {"usm_unmask_audio, a payload that is read-only", read_only_payload},
+};
+
+/* How a call ends in a process of its own: 0, or the signal that ends it. */
+static int signal_of(void (*call)(size_t lacks), size_t lacks)
+{
+    pid_t child;
+    int status;
+
+    fflush(stdout);
+    child = fork();
+    if (child < 0) {
+        perror("fork");
+        exit(2);
+    }
+    if (child == 0) {
+        signal(SIGSEGV, SIG_DFL);
+        call(lacks);
+        _exit(0);
+    }
+    if (waitpid(child, &status, 0) != child) {
+        perror("waitpid");
+        exit(2);
+    }
+    return WIFSIGNALED(status) ? WTERMSIG(status) : 0;
+}
+
+int show_catches(void)
+{
+    size_t count = sizeof CATCHES / sizeof CATCHES[0], caught = 0, i;
+
+    make_memory(&read_only, SONG_BYTES, 1);
+    make_memory(&second_read_only, SONG_BYTES, 1);
+    make_memory(&written, SONG_BYTES, 0);
+    make_memory(&second_written, SONG_BYTES, 0);
+    make_memory(&report_memory, SONG_BYTES, 0);
+    make_f(f);
+    make_song(&song, 1);
+    /* The song ends with the last payload, so that its last byte is wanted. */
+    song.stored.len = 3104 - 19;
+
+    for (i = 0; i < count; i++) {
+        int right = signal_of(CATCHES[i].call, 0), wrong = signal_of(CATCHES[i].call, 1);
+
+        if (right == 0 && wrong == SIGSEGV)
+            caught++;
+        else
+            printf("NOT caught: %s, signal %d with the right length and %d with one too large\n", CATCHES[i].what,
+                   right, wrong);
+    }
+    printf("%zu of %zu calls that reach one too far end by SIGSEGV; with the right length none does\n", caught, count);
+    return caught == count;
+}

@@ -1,0 +1,35 @@
+/*
+ * Films and tables made by chance: whole ones of many shapes, damaged ones, and bytes without sense.
+ */
+#ifndef MAKE_H
+#define MAKE_H
+
+#include "chance.h"
+
+#include <stddef.h>
+#include <stdint.h>
+
+#define MADE_BYTES 65536
+#define MADE_FIELDS 1024
+
+/* Where a number stands that a reader goes by, and its bytes. */
+struct field {
+    size_t at;
+    unsigned width;
+};
+
+/* What is made, with its fields. */
+struct made {
+    uint8_t bytes[MADE_BYTES];
+    size_t len;
+    struct field fields[MADE_FIELDS];
+    size_t count;
+};
+
+/* Makes a film: whole, damaged or no film at all. */
+void make_any_film(struct made *made, struct chance *chance);
+
+/* Makes a table, with bytes in front of it as its place says. */
+size_t make_any_table(struct made *made, struct chance *chance);
+
+#endif
