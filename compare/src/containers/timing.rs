@@ -23,6 +23,7 @@ const CONTAINERS: [(usize, [&str; 2]); 2] = [(32_768, ["32k-key", "32k-plain"]),
 struct Medians {
     name: &'static str,
     allocated: f64,
+    reserved: f64,
     lent: f64,
     rust: f64,
 }
@@ -41,28 +42,28 @@ pub fn run() {
     print_goals(&all);
 }
 
-/// All three in turns, forwards and backwards.
+/// All four in turns, forwards and backwards.
 fn medians(name: &'static str, container: &[u8], key: Option<u64>) -> Medians {
     let [video, sound] = measure(container);
     let (mut video, mut sound) = (vec![1; video], vec![1; sound]);
-    let mut samples = [const { Vec::new() }; 3];
+    let mut samples = [const { Vec::new() }; 4];
     for turn in 0..SAMPLES {
-        for step in 0..3 {
-            let who = if turn % 2 == 0 { step } else { 2 - step };
+        for step in 0..4 {
+            let who = if turn % 2 == 0 { step } else { 3 - step };
             samples[who].push(match who {
-                0 => clock(1, || allocated(container, key)),
-                1 => clock(1, || lent(container, key, &mut video, &mut sound)),
+                0 => clock(1, || allocated(container, key, measure(container))),
+                1 => clock(1, || allocated(container, key, [container.len(); 2])),
+                2 => clock(1, || lent(container, key, &mut video, &mut sound)),
                 _ => clock(1, || rust(container, key)),
             });
         }
     }
-    let [allocated, lent, rust] = samples.map(median);
-    Medians { name, allocated, lent, rust }
+    let [allocated, reserved, lent, rust] = samples.map(median);
+    Medians { name, allocated, reserved, lent, rust }
 }
 
-/// As the original does: allocated, filled and given back; and measured before.
-fn allocated(container: &[u8], key: Option<u64>) {
-    let sizes = measure(container);
+/// As the original does: allocated, filled and given back.
+fn allocated(container: &[u8], key: Option<u64>, sizes: [usize; 2]) {
     let mut report = [0; EXTRACT_WORDS];
     accepted(exports::extract_to_new(black_box(container), how(key), sizes, &mut report));
     black_box(report);
@@ -114,9 +115,9 @@ fn print_ratios(all: &[Medians]) {
 
 fn print_times(all: &[Medians]) {
     println!("\nThe same in nanoseconds for one call");
-    println!("NAME BYTES RATTLE-ALLOCATED RATTLE-LENT RUST");
+    println!("NAME BYTES RATTLE-ALLOCATED RATTLE-RESERVED RATTLE-LENT RUST");
     for m in all {
-        println!("{} {LONG} {:.0} {:.0} {:.0}", m.name, m.allocated, m.lent, m.rust);
+        println!("{} {LONG} {:.0} {:.0} {:.0} {:.0}", m.name, m.allocated, m.reserved, m.lent, m.rust);
     }
 }
 
