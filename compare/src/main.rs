@@ -5,9 +5,11 @@
 //! It calls itself for what may take gigabytes: compare ask AUDIO.
 
 mod clock;
+mod damage;
 mod hex;
 mod lent;
 mod random;
+mod shrink;
 
 mod masks {
     pub mod arena;

@@ -3,6 +3,7 @@
 use super::call::Call;
 use super::case::Case;
 use super::rules::{self, INSIDE};
+use crate::damage::others;
 use crate::random::Random;
 use crate::tables::header::{self, Field};
 
@@ -27,11 +28,8 @@ fn with_calls(mut cases: Vec<Case>, random: &mut Random) -> Vec<Case> {
     cases
 }
 
-/// One byte at its edges, with its first and last bit turned, and as any.
 fn changed_bytes(case: &Case, at: usize, random: &mut Random) -> Vec<Case> {
-    let byte = case.whole[at];
-    let others = [0, 0xFF, byte ^ 1, byte ^ 0x80, random.number() as u8];
-    others.into_iter().filter(|&other| other != byte).map(|other| changed_byte(case, at, other)).collect()
+    others(case.whole[at], random).map(|other| changed_byte(case, at, other)).collect()
 }
 
 pub fn changed_byte(case: &Case, at: usize, byte: u8) -> Case {

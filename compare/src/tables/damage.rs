@@ -2,6 +2,7 @@
 
 use super::case::Case;
 use super::header::{FIELDS, Field};
+use crate::damage::others;
 use crate::random::Random;
 
 /// Every damaged copy of a case.
@@ -15,11 +16,8 @@ pub fn copies(case: &Case, random: &mut Random) -> Vec<Case> {
     copies
 }
 
-/// One byte at its edges, with its first and last bit turned, and as any.
 fn changed_bytes(case: &Case, at: usize, random: &mut Random) -> Vec<Case> {
-    let byte = case.whole[at];
-    let others = [0, 0xFF, byte ^ 1, byte ^ 0x80, random.number() as u8];
-    others.into_iter().filter(|&other| other != byte).map(|other| changed_byte(case, at, other)).collect()
+    others(case.whole[at], random).map(|other| changed_byte(case, at, other)).collect()
 }
 
 pub fn changed_byte(case: &Case, at: usize, byte: u8) -> Case {
