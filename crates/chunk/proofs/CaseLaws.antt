@@ -37,10 +37,10 @@ module _ (container : List ℕ) (c : ℕ) where
       other f = rw (unmarked, ← read, ne-eqb name SFV no-video, ne-eqb name SFA f)
 
 -- the fields as they were read
-pub read-so : (container : List ℕ) (c n : ℕ) (kind : Kind) (block : ℕ) → kind ≡ kindAt container c → block ≡ be32 container (c + 4)
-    → record { start = c; kind = kind; tag = at container (c + 15) % 4; len = n; next = c + 8 + block } ≡ chunkOf container c n
+pub read-so : (container : List ℕ) (c n : ℕ) (kind : Kind) (byte block : ℕ) → kind ≡ kindAt container c → byte ≡ at container (c + 15) → block ≡ be32 container (c + 4)
+    → record { start = c; kind = kind; tag = byte % 4; len = n; next = c + 8 + block } ≡ chunkOf container c n
 unfolding chunkOf
-read-so container c n kind block e f = cc
+read-so container c n kind byte block e f g = cc
 
 module _ (container : List ℕ) (reading : Reading) (c : ℕ) where
   pub over : length container - c < 4 → Over ≡ chunkAt container reading c

@@ -1,3 +1,4 @@
 pub mod CaseLaws
 pub mod FoundLaws
 pub mod OneAnswer
+pub mod OpeningLaws

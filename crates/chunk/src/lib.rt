@@ -3,7 +3,7 @@
 ghost use mathlib.Core.Path.{_≡_};
 ghost use Prim.Native.Nat.{_+_, _≤_};
 ghost use lib.ListN.{length};
-ghost use Rattle.chunk.specs.Chunks.{kindNumber, kindAt, isTaken, chunkOf, refusedAt, takenAt, chunkAt, payloadOf, payloadAt};
+ghost use Rattle.chunk.specs.Chunks.{openingAt, kindNumber, kindAt, isTaken, chunkOf, refusedAt, takenAt, chunkAt, payloadOf, payloadAt};
 use reading::Reading;
 use refusal::Cause;
 use refusal::Refusal;
@@ -36,7 +36,7 @@ pub enum ChunkStep {
 const LETTERS: usize = 4;
 
 // The bytes that every chunk has: as many as an end chunk needs.
-const WHOLE: usize = 45;
+const OPENING: usize = 45;
 
 // The number of a kind.
 pub fn kind_number(kind: Kind) -> u8
@@ -50,15 +50,25 @@ pub fn kind_number(kind: Kind) -> u8
     }
 }
 
+// The opening of the chunk at a place. Reads of a part whose length is known need no test that the bytes are there.
+fn opening_at(container: &[u8], place: usize) -> &[u8]
+    requires { ⌜ place + 45 ≤ length (now container) ⌝ }
+    ensures { λ r. ⌜ now r ≡ openingAt (now (container .entry)) place ⌝ }
+{
+    let end = place + OPENING;
+    &container[place..end]
+}
+
 // What the chunk at a place is.
 fn kind_at(container: &[u8], place: usize) -> Kind
     requires { ⌜ place + 45 ≤ length (now container) ⌝ }
     ensures { λ r. ⌜ r ≡ kindAt (now (container .entry)) place ⌝ }
 {
-    if letters::stands_at(b"#CONTENTS END", container, place + letters::INSIDE) {
+    let opening = opening_at(container, place);
+    if letters::stands_at(b"#CONTENTS END", opening, letters::INSIDE) {
         return Kind::End;
     }
-    let name = word::read32(container, place);
+    let name = word::read32(opening, 0);
     if name == letters::SFV {
         return Kind::Video;
     }
@@ -88,8 +98,9 @@ fn chunk_of(container: &[u8], place: usize, kind: Kind, len: usize) -> Chunk
     requires { ⌜ (place + 45 ≤ length (now container)) × (kind ≡ kindAt (now container) place) ⌝ }
     ensures { λ r. ⌜ r ≡ chunkOf (now (container .entry)) place len ⌝ }
 {
-    let tag = container[place + 15] % 4;
-    let next = place + 8 + word::read32(container, place + 4);
+    let opening = opening_at(container, place);
+    let tag = opening[15] % 4;
+    let next = place + 8 + word::read32(opening, 4);
     Chunk {
         start: place,
         kind,
@@ -111,8 +122,9 @@ fn taken_at(container: &[u8], place: usize, kind: Kind) -> ChunkStep
     requires { ⌜ (place + 45 ≤ length (now container)) × (kind ≡ kindAt (now container) place) ⌝ }
     ensures { λ r. ⌜ r ≡ takenAt (now (container .entry)) place ⌝ }
 {
-    let block = word::read32(container, place + 4);
-    let spare = word::read16(container, place + 8) + word::read16(container, place + 10);
+    let opening = opening_at(container, place);
+    let block = word::read32(opening, 4);
+    let spare = word::read16(opening, 8) + word::read16(opening, 10);
     if block < spare {
         return refused(Cause::TooSmall, place);
     }
@@ -131,7 +143,7 @@ pub fn chunk_at(container: &[u8], place: usize, reading: Reading) -> ChunkStep
     if left < LETTERS {
         return ChunkStep::Over;
     }
-    if left < WHOLE {
+    if left < OPENING {
         return refused(Cause::RanOut, place);
     }
     let kind = kind_at(container, place);

@@ -1,20 +1,22 @@
 -- `chunk::chunk_of` meets its contract: each field is what was read. Assumes nothing.
+use mathlib.Core.Path.{ap, _∙_}
+use native.Mathlib.Omega.{arith}
 use Rattle.chunk.proofs.CaseLaws.{read-so}
+use Rattle.chunk.proofs.OpeningLaws.{opening-at, opening-be32, opening-length}
 use borrow.Author.Needs.{needs}
 use Rattle.chunk.proofs.chunk_of.Statement.{statement}
 use Rattle.chunk.proofs.chunk_of.Tie as tie
 
-add-tag : tie.Need-add-tag
-add-tag c = search needs
+opening-at-requires : tie.Need-opening-at-requires
+opening-at-requires c κs = search needs
 
 shared-slice-read-tag : tie.Need-shared-slice-read-tag
-shared-slice-read-tag c = search needs
+shared-slice-read-tag c =
+    let long = opening-length _ _ _ (c .before .opening-at .ensures) (c .before .before .before .pre .0) in
+    search (needs, long)
 
 add-next : tie.Need-add-next
 add-next c = search needs
-
-add-read32 : tie.Need-add-read32
-add-read32 c = search needs
 
 read32-requires : tie.Need-read32-requires
 read32-requires c κs = search needs
@@ -23,9 +25,17 @@ add-next-2 : tie.Need-add-next-2
 add-next-2 c = search needs
 
 returns : tie.Need-returns
-returns c = read-so _ _ _ _ _ (c .before .before .before .pre .1) (c .read32 .ensures .0)
+returns c =
+    let opened = c .before .before .opening-at .ensures in
+    read-so _ _ _ _ _ _ (c .before .before .before .before .pre .1) (opening-at _ _ _ opened 15 (omega arith)) (c .read32 .ensures .0 ∙ opening-be32 _ _ _ opened 4 (omega arith))
 
 pub chunk-of-spec : {M : Type 1} → statement M
 chunk-of-spec =
     tie.close
-    (tie.spec add-tag shared-slice-read-tag add-next add-read32 read32-requires add-next-2 returns)
+    (tie.spec
+    opening-at-requires
+    shared-slice-read-tag
+    add-next
+    read32-requires
+    add-next-2
+    returns)

@@ -3,24 +3,19 @@ use mathlib.Core.Path.{ap, _∙_}
 use native.Mathlib.Omega.{arith}
 use Rattle.chunk.specs.declared.ChunkStep.the-variants.{Found}
 use Rattle.chunk.proofs.CaseLaws.{too-small, ran-out, present}
+use Rattle.chunk.proofs.OpeningLaws.{opening-be16, opening-be32}
 use borrow.Author.Needs.{needs}
 use Rattle.chunk.proofs.taken_at.Statement.{statement}
 use Rattle.chunk.proofs.taken_at.Tie as tie
 
-add-read32 : tie.Need-add-read32
-add-read32 c = search needs
+opening-at-requires : tie.Need-opening-at-requires
+opening-at-requires c κs = search needs
 
 read32-requires : tie.Need-read32-requires
 read32-requires c κs = search needs
 
-add-read16 : tie.Need-add-read16
-add-read16 c = search needs
-
 read16-requires : tie.Need-read16-requires
 read16-requires c κs = search needs
-
-add-read16-2 : tie.Need-add-read16-2
-add-read16-2 c = search needs
 
 read16-requires-2 : tie.Need-read16-requires-2
 read16-requires-2 c κs = search needs
@@ -34,7 +29,11 @@ refused-requires c κs = search needs
 returns : tie.Need-returns
 returns c =
     let t = c .before in
-    c .refused .ensures ∙ too-small _ _ _ _ (t .before .before .before .read32 .ensures .0) (omega arith) (t .if1 .taken)
+    let r = t .before .before .before in
+    let opened = r .before .opening-at .ensures in
+    let header = opening-be16 _ _ _ opened 8 (omega arith) in
+    let footer = opening-be16 _ _ _ opened 10 (omega arith) in
+    c .refused .ensures ∙ too-small _ _ _ _ (r .read32 .ensures .0 ∙ opening-be32 _ _ _ opened 4 (omega arith)) (omega (arith, header, footer)) (t .if1 .taken)
 
 add-left-from : tie.Need-add-left-from
 add-left-from c = search needs
@@ -48,7 +47,11 @@ refused-requires-2 c κs = search needs
 returns-2 : tie.Need-returns-2
 returns-2 c =
     let t = c .before .before .before in
-    c .refused2 .ensures ∙ ran-out _ _ _ _ (t .before .before .before .read32 .ensures .0) (omega arith) (t .if1 .left) (omega arith)
+    let r = t .before .before .before in
+    let opened = r .before .opening-at .ensures in
+    let header = opening-be16 _ _ _ opened 8 (omega arith) in
+    let footer = opening-be16 _ _ _ opened 10 (omega arith) in
+    c .refused2 .ensures ∙ ran-out _ _ _ _ (r .read32 .ensures .0 ∙ opening-be32 _ _ _ opened 4 (omega arith)) (omega (arith, header, footer)) (t .if1 .left) (omega arith)
 
 chunk-of-requires : tie.Need-chunk-of-requires
 chunk-of-requires c κs = search needs
@@ -56,17 +59,19 @@ chunk-of-requires c κs = search needs
 returns-3 : tie.Need-returns-3
 returns-3 c =
     let t = c .before .before .before in
-    ap Found (c .chunk-of .ensures) ∙ present _ _ _ _ (t .before .before .before .read32 .ensures .0) (omega arith) (t .if1 .left) (omega arith)
+    let r = t .before .before .before in
+    let opened = r .before .opening-at .ensures in
+    let header = opening-be16 _ _ _ opened 8 (omega arith) in
+    let footer = opening-be16 _ _ _ opened 10 (omega arith) in
+    ap Found (c .chunk-of .ensures) ∙ present _ _ _ _ (r .read32 .ensures .0 ∙ opening-be32 _ _ _ opened 4 (omega arith)) (omega (arith, header, footer)) (t .if1 .left) (omega arith)
 
 pub taken-at-spec : {M : Type 1} → statement M
 taken-at-spec =
     tie.close
     (tie.spec
-    add-read32
+    opening-at-requires
     read32-requires
-    add-read16
     read16-requires
-    add-read16-2
     read16-requires-2
     add-spare
     refused-requires
