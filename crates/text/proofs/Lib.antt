@@ -1,1 +1,3 @@
-pub mod LengthLaws
+pub mod PieceLaws
+pub mod PlaceLaws
+pub mod OneAnswer

@@ -1,9 +1,10 @@
 // A line of text that is made piece by piece and written at once. A piece that does not fit is left out.
 // No rule of this crate comes from the Rust: it serves the programs that replay recorded answers.
 ghost use mathlib.Core.Path.{_≡_};
-ghost use Prim.Native.Nat.{_*_, _-_, _≤_, _<_};
-ghost use lib.ListN.{length};
-ghost use Rattle.text.specs.Lengths.{lengthWith};
+ghost use Prim.Native.Nat.{_-_, _<_, min, max};
+ghost use lib.ListN.{replicate};
+ghost use Rattle.io.specs.Digits.{glyph};
+ghost use Rattle.text.specs.Lines.{withPiece, hexOf, WithNumber};
 use libc::STDOUT_FILENO;
 
 // A line so far: the first `len` of the bytes.
@@ -17,7 +18,7 @@ const ROOM: usize = 8200;
 
 // The line with nothing on it.
 pub fn empty() -> Line
-    ensures { λ r. ⌜ r .len ≡ 0 ⌝ }
+    ensures { λ r. ⌜ r ≡ record { bytes = replicate 8200 0; len = 0 } ⌝ }
 {
     Line {
         bytes: [0u8; ROOM],
@@ -38,6 +39,7 @@ fn room_after(len: usize) -> usize
 // The hex digit of a number below 16.
 fn hex_digit(n: u8) -> u8
     requires { ⌜ n < 16 ⌝ }
+    ensures { λ r. ⌜ r ≡ glyph n ⌝ }
 {
     if n < 10 {
         return b'0' + n;
@@ -46,10 +48,9 @@ fn hex_digit(n: u8) -> u8
 }
 
 impl Line {
-    // The line with a word after it. The bound follows from the equation, and spares a caller the proof of it.
+    // The line with a word after it.
     pub fn word(self, word: &[u8]) -> Line
-        ensures { λ r. ⌜ r .len ≡ lengthWith (self .len) (length (now (word .entry))) ⌝ }
-        ensures { λ r. ⌜ self .len ≤ r .len ⌝ }
+        ensures { λ r. ⌜ r ≡ withPiece self (now (word .entry)) ⌝ }
     {
         let start = self.len;
         if room_after(start) < word.len() {
@@ -69,7 +70,7 @@ impl Line {
 
     // The line with two hex digits after it for each byte of a part.
     pub fn hex_bytes(self, part: &[u8]) -> Line
-        ensures { λ r. ⌜ r .len ≡ lengthWith (self .len) (2 * length (now (part .entry))) ⌝ }
+        ensures { λ r. ⌜ r ≡ withPiece self (hexOf (now (part .entry))) ⌝ }
     {
         let start = self.len;
         if room_after(start) / 2 < part.len() {
@@ -91,7 +92,7 @@ impl Line {
 
     // The line with a number's hex digits after it, and zeros before them up to `width` digits.
     pub fn hex(self, n: u64, width: usize) -> Line
-        ensures { λ r. ⌜ self .len ≤ r .len ⌝ }
+        ensures { λ r. ⌜ WithNumber 16 (min (max width 1) 16) n self r ⌝ }
     {
         let mut digits = [0u8; 16];
         let count = io::hex(n, width, &mut digits);
@@ -100,7 +101,7 @@ impl Line {
 
     // The line with a number's decimal digits after it.
     pub fn decimal(self, n: u64) -> Line
-        ensures { λ r. ⌜ self .len ≤ r .len ⌝ }
+        ensures { λ r. ⌜ WithNumber 10 1 n self r ⌝ }
     {
         let mut digits = [0u8; 20];
         let count = io::decimal(n, &mut digits);

@@ -1,5 +1,5 @@
 -- `chunk::chunk_of` meets its contract: each field is what was read. Assumes nothing.
-use mathlib.Core.Path.{ap, _∙_}
+use mathlib.Core.Path.{_∙_}
 use native.Mathlib.Omega.{arith}
 use Rattle.chunk.proofs.CaseLaws.{read-so}
 use Rattle.chunk.proofs.OpeningLaws.{opening-at, opening-be32, opening-length}

@@ -1,14 +1,19 @@
 -- `fields::decode` meets its contract: both digits of each byte lie in the text. Assumes nothing.
-use Prim.Native.Nat.{_*_, _-_, _≤_}
-use mathlib.Core.Path.{_≡_}
+use mathlib.Core.Path.{_≡_, sym, ap, _∙_}
+use mathlib.Core.List.{_++_}
+use Prim.Native.Nat.{ℕ, _-_, _/_, _≤_}
 use native.Mathlib.Omega.{arith}
-use lib.ListN.{length, length-take}
+use lib.ListN.{length, take, drop, length-take}
+use Rattle.laws.proofs.UptoLaws.{Upto, upto-none, upto-set, upto-to, upto-written}
+use Rattle.fields.specs.Fields.{decoded}
+use Rattle.laws.specs.Lists.{at}
+use Rattle.laws.proofs.TabLaws.{tab-length, tab-at}
 use borrow.Author.Needs.{needs}
 use Rattle.fields.proofs.decode.Statement.{statement}
 use Rattle.fields.proofs.decode.Tie as tie
 
 abbrev Inv-loop : tie.InvT-loop
-Inv-loop text bytes₀ count i₀ bytes i = (length bytes ≡ length bytes₀) × (count ≤ length bytes₀) × (2 * count ≤ length text) × (i ≤ count)
+Inv-loop text bytes₀ count i₀ bytes i = Upto (at (decoded text)) bytes₀ bytes i × (i ≤ count)
 
 abbrev μ-loop : tie.MeasureT-loop
 μ-loop text bytes₀ count i₀ bytes i = count - i
@@ -17,7 +22,7 @@ least-requires : tie.Need-least-requires Inv-loop μ-loop
 least-requires c κs = search needs
 
 loop-holds : tie.Need-loop-holds Inv-loop μ-loop
-loop-holds c = search needs
+loop-holds c = (upto-none _ _, omega arith)
 
 mul-byte-of : tie.Need-mul-byte-of Inv-loop μ-loop
 mul-byte-of c = search needs
@@ -47,13 +52,24 @@ loop-less : tie.Need-loop-less Inv-loop μ-loop
 loop-less c = search needs
 
 loop-again : tie.Need-loop-again Inv-loop μ-loop
-loop-again c = search needs
+loop-again c =
+    let l = c .before .before .before .before in
+    (upto-set _ _ _ _ _ (l .loop .inv .0) (omega arith) (c .byte-of .ensures ∙ sym (tab-at _ _ _ (omega arith))), omega arith)
 
 same-length : tie.Need-same-length Inv-loop μ-loop
 same-length c = search needs
 
 returns : tie.Need-returns Inv-loop μ-loop
-returns c = (search needs, simp length-take (omega arith))
+returns c =
+    let l = c .before in
+    let n = l .before .least .result in
+    let z = l .before .before .before .before .args in
+    let text = z .text .now in
+    let all : l .loop .i ≡ n = omega arith in
+    let pairs : length (decoded text) ≡ length text / 2 = tab-length _ _ in
+    let written = upto-written (decoded text) (z .bytes .now) (l .loop .bytes) n (upto-to (l .loop .inv .0) all) (omega (arith, pairs)) (omega arith) in
+    let counted = l .before .least .ensures in
+    ((counted, written ∙ ap (λ (k : ℕ). take k (decoded text) ++ drop k (z .bytes .now)) counted), (omega arith, simp length-take (omega arith)))
 
 pub decode-spec : {M : Type 1} → statement M
 decode-spec =

@@ -9,16 +9,16 @@ next-line-requires : tie.Need-next-line-requires
 next-line-requires c κs = search needs
 
 sub-end : tie.Need-sub-end
-sub-end c = let n = c .next-line .ensures (c .before .before .before .pre) in omega (arith, n .0, n .1)
+sub-end c = let n = c .next-line .ensures .1 (c .before .before .before .pre) in omega (arith, n .0, n .1)
 
 sub-line : tie.Need-sub-line
-sub-line c = let n = c .next-line .ensures (c .before .before .before .pre) in omega (arith, n .0, n .1)
+sub-line c = let n = c .next-line .ensures .1 (c .before .before .before .pre) in omega (arith, n .0, n .1)
 
 part-line-start : tie.Need-part-line-start
-part-line-start c = let n = c .next-line .ensures (c .before .before .before .pre) in omega (arith, n .0, n .1)
+part-line-start c = let n = c .next-line .ensures .1 (c .before .before .before .pre) in omega (arith, n .0, n .1)
 
 part-line-end : tie.Need-part-line-end
-part-line-end c = let n = c .next-line .ensures (c .before .before .before .pre) in omega (arith, n .0, n .1)
+part-line-end c = let n = c .next-line .ensures .1 (c .before .before .before .pre) in omega (arith, n .0, n .1)
 
 length-on-requires : tie.Need-length-on-requires
 length-on-requires c κs = search needs
@@ -44,7 +44,7 @@ slice-aggregate-replay-lines c = simp length-take (omega arith)
 replay-lines-requires : tie.Need-replay-lines-requires
 replay-lines-requires c κs =
     let l = c .before .before .before .before .before .before .before .before .before .before .before .before in
-    let n = l .next-line .ensures (l .before .before .before .pre) in
+    let n = l .next-line .ensures .1 (l .before .before .before .pre) in
     omega (arith, n .0, n .1)
 
 enum-told : tie.Need-enum-told
@@ -56,7 +56,7 @@ same-length c = search needs
 returns-2 : tie.Need-returns-2
 returns-2 c =
     let l = c .before .before .before .before .before .before .before .before .before .before .before .before .before .before .before in
-    let n = l .next-line .ensures (l .before .before .before .pre) in
+    let n = l .next-line .ensures .1 (l .before .before .before .pre) in
     let r = c .before .before .replay-lines .ensures in
     (omega (arith, n .0, r .0), r .1)
 

@@ -20,16 +20,16 @@ next-line-requires : tie.Need-next-line-requires Inv-loop μ-loop
 next-line-requires c κs = search needs
 
 sub-end : tie.Need-sub-end Inv-loop μ-loop
-sub-end c = let n = c .next-line .ensures (c .before .loop-test .taken) in omega (arith, n .0, n .1)
+sub-end c = let n = c .next-line .ensures .1 (c .before .loop-test .taken) in omega (arith, n .0, n .1)
 
 sub-replay-line : tie.Need-sub-replay-line Inv-loop μ-loop
-sub-replay-line c = let n = c .next-line .ensures (c .before .loop-test .taken) in omega (arith, n .0, n .1)
+sub-replay-line c = let n = c .next-line .ensures .1 (c .before .loop-test .taken) in omega (arith, n .0, n .1)
 
 part-replay-line-start : tie.Need-part-replay-line-start Inv-loop μ-loop
-part-replay-line-start c = let n = c .next-line .ensures (c .before .loop-test .taken) in omega (arith, n .0, n .1)
+part-replay-line-start c = let n = c .next-line .ensures .1 (c .before .loop-test .taken) in omega (arith, n .0, n .1)
 
 part-replay-line-end : tie.Need-part-replay-line-end Inv-loop μ-loop
-part-replay-line-end c = let n = c .next-line .ensures (c .before .loop-test .taken) in omega (arith, n .0, n .1)
+part-replay-line-end c = let n = c .next-line .ensures .1 (c .before .loop-test .taken) in omega (arith, n .0, n .1)
 
 replay-line-requires : tie.Need-replay-line-requires Inv-loop μ-loop
 replay-line-requires c κs = search needs
@@ -43,13 +43,13 @@ returns c = search needs
 loop-less : tie.Need-loop-less Inv-loop μ-loop
 loop-less c =
     let l = c .before .before .before .before .before .before in
-    let n = l .next-line .ensures (l .before .loop-test .taken) in
+    let n = l .next-line .ensures .1 (l .before .loop-test .taken) in
     omega (arith, n .0, n .1)
 
 loop-again : tie.Need-loop-again Inv-loop μ-loop
 loop-again c =
     let l = c .before .before .before .before .before .before in
-    let n = l .next-line .ensures (l .before .loop-test .taken) in
+    let n = l .next-line .ensures .1 (l .before .loop-test .taken) in
     (omega (arith, n .0, n .1), omega (arith, n .0, n .1), search needs)
 
 same-length-2 : tie.Need-same-length-2 Inv-loop μ-loop

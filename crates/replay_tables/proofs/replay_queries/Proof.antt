@@ -19,16 +19,16 @@ next-line-requires : tie.Need-next-line-requires Inv-loop μ-loop
 next-line-requires c κs = search needs
 
 sub-end : tie.Need-sub-end Inv-loop μ-loop
-sub-end c = let n = c .next-line .ensures (c .before .loop-test .taken) in omega (arith, n .0, n .1)
+sub-end c = let n = c .next-line .ensures .1 (c .before .loop-test .taken) in omega (arith, n .0, n .1)
 
 sub-replay-query : tie.Need-sub-replay-query Inv-loop μ-loop
-sub-replay-query c = let n = c .next-line .ensures (c .before .loop-test .taken) in omega (arith, n .0, n .1)
+sub-replay-query c = let n = c .next-line .ensures .1 (c .before .loop-test .taken) in omega (arith, n .0, n .1)
 
 part-replay-query-start : tie.Need-part-replay-query-start Inv-loop μ-loop
-part-replay-query-start c = let n = c .next-line .ensures (c .before .loop-test .taken) in omega (arith, n .0, n .1)
+part-replay-query-start c = let n = c .next-line .ensures .1 (c .before .loop-test .taken) in omega (arith, n .0, n .1)
 
 part-replay-query-end : tie.Need-part-replay-query-end Inv-loop μ-loop
-part-replay-query-end c = let n = c .next-line .ensures (c .before .loop-test .taken) in omega (arith, n .0, n .1)
+part-replay-query-end c = let n = c .next-line .ensures .1 (c .before .loop-test .taken) in omega (arith, n .0, n .1)
 
 replay-query-requires : tie.Need-replay-query-requires Inv-loop μ-loop
 replay-query-requires c κs = search needs
@@ -37,11 +37,11 @@ returns : tie.Need-returns Inv-loop μ-loop
 returns c = search needs
 
 loop-less : tie.Need-loop-less Inv-loop μ-loop
-loop-less c = let n = c .before .before .before .next-line .ensures (c .before .before .before .before .loop-test .taken) in omega (arith, n .0, n .1)
+loop-less c = let n = c .before .before .before .next-line .ensures .1 (c .before .before .before .before .loop-test .taken) in omega (arith, n .0, n .1)
 
 loop-again : tie.Need-loop-again Inv-loop μ-loop
 loop-again c =
-    let n = c .before .before .before .next-line .ensures (c .before .before .before .before .loop-test .taken) in
+    let n = c .before .before .before .next-line .ensures .1 (c .before .before .before .before .loop-test .taken) in
     (omega (arith, n .0, n .1), omega (arith, n .0, n .1))
 
 returns-2 : tie.Need-returns-2 Inv-loop μ-loop

@@ -8,16 +8,16 @@ next-line-requires : tie.Need-next-line-requires
 next-line-requires c κs = search needs
 
 sub-end : tie.Need-sub-end
-sub-end c = let n = c .next-line .ensures (c .before .before .pre) in omega (arith, n .0, n .1)
+sub-end c = let n = c .next-line .ensures .1 (c .before .before .pre) in omega (arith, n .0, n .1)
 
 sub-line : tie.Need-sub-line
-sub-line c = let n = c .next-line .ensures (c .before .before .pre) in omega (arith, n .0, n .1)
+sub-line c = let n = c .next-line .ensures .1 (c .before .before .pre) in omega (arith, n .0, n .1)
 
 part-line-start : tie.Need-part-line-start
-part-line-start c = let n = c .next-line .ensures (c .before .before .pre) in omega (arith, n .0, n .1)
+part-line-start c = let n = c .next-line .ensures .1 (c .before .before .pre) in omega (arith, n .0, n .1)
 
 part-line-end : tie.Need-part-line-end
-part-line-end c = let n = c .next-line .ensures (c .before .before .pre) in omega (arith, n .0, n .1)
+part-line-end c = let n = c .next-line .ensures .1 (c .before .before .pre) in omega (arith, n .0, n .1)
 
 is-table-requires : tie.Need-is-table-requires
 is-table-requires c κs = search needs
@@ -47,11 +47,11 @@ write-table-requires : tie.Need-write-table-requires
 write-table-requires c κs = search needs
 
 replay-queries-requires : tie.Need-replay-queries-requires
-replay-queries-requires c κs = let n = c .before .before .before .before .before .before .before .before .before .before .next-line .ensures (c .before .before .before .before .before .before .before .before .before .before .before .before .pre) in omega (arith, n .0, n .1)
+replay-queries-requires c κs = let n = c .before .before .before .before .before .before .before .before .before .before .next-line .ensures .1 (c .before .before .before .before .before .before .before .before .before .before .before .before .pre) in omega (arith, n .0, n .1)
 
 returns-2 : tie.Need-returns-2
 returns-2 c =
-    let n = c .before .before .before .before .before .before .before .before .before .before .before .next-line .ensures (c .before .before .before .before .before .before .before .before .before .before .before .before .before .pre) in
+    let n = c .before .before .before .before .before .before .before .before .before .before .before .next-line .ensures .1 (c .before .before .before .before .before .before .before .before .before .before .before .before .before .pre) in
     (omega (arith, n .0, c .replay-queries .ensures .0), c .replay-queries .ensures .1)
 
 pub replay-table-spec : {M : Type 1} → statement M

@@ -1,15 +1,18 @@
 -- `text::Line::hex_bytes` meets its contract: the digits fit, and those of the first i bytes are put. Assumes nothing.
-use Prim.Native.Nat.{_*_, _-_, _≤_}
+use mathlib.Core.Path.{_≡_, refl, sym, _∙_}
+use Prim.Native.Nat.{_+_, _*_, _-_, _≤_}
+use native.Mathlib.Nat.{add-zero}
 use native.Mathlib.Omega.{arith}
-use lib.ListN.{length}
-use denote.Ref.{now}
-use Rattle.text.proofs.LengthLaws.{left-out, put-after}
+use lib.ListN.{length, drop}
+use lib.Seq.{sets}
+use Rattle.text.specs.Lines.{hexOf}
+use Rattle.text.proofs.PieceLaws.{left-out, put-after, hex-length, hex-put, hex-all-put}
 use borrow.Author.Needs.{needs}
 use Rattle.text.proofs.Line.hex_bytes.Statement.{statement}
 use Rattle.text.proofs.Line.hex_bytes.Tie as tie
 
 abbrev Inv-loop : tie.InvT-loop
-Inv-loop part start bytes₀ i₀ bytes i = (2 * length part ≤ 8200 - start) × (i ≤ length part)
+Inv-loop part start bytes₀ i₀ bytes i = (sets bytes (start + 2 * i) (hexOf (drop i part)) ≡ sets bytes₀ start (hexOf part)) × (i ≤ length part)
 
 abbrev μ-loop : tie.MeasureT-loop
 μ-loop part start bytes₀ i₀ bytes i = length part - i
@@ -20,10 +23,10 @@ room-after-requires c κs = search needs
 returns : tie.Need-returns Inv-loop μ-loop
 returns c =
     let a = c .before .before .before .args in
-    left-out (a .self .len) (2 * length (now (a .part))) (omega arith)
+    left-out (a .self) (hexOf (a .part .now)) (omega (arith, hex-length (a .part .now)))
 
 loop-holds : tie.Need-loop-holds Inv-loop μ-loop
-loop-holds c = search needs
+loop-holds c = (rw add-zero refl, omega arith)
 
 shared-slice-read-byte : tie.Need-shared-slice-read-byte Inv-loop μ-loop
 shared-slice-read-byte c = search needs
@@ -62,7 +65,10 @@ loop-less : tie.Need-loop-less Inv-loop μ-loop
 loop-less c = search needs
 
 loop-again : tie.Need-loop-again Inv-loop μ-loop
-loop-again c = search needs
+loop-again c =
+    let l = c .before .before .before .before in
+    let a = l .before .before .before .before .before .args in
+    (rw (c .before .hex-digit .ensures, c .hex-digit2 .ensures) (sym (hex-put (l .loop .bytes) (a .part .now) (a .self .len) (l .loop .i) (omega arith)) ∙ l .loop .inv .0), omega arith)
 
 mul-t7 : tie.Need-mul-t7 Inv-loop μ-loop
 mul-t7 c = search needs
@@ -72,8 +78,12 @@ add-t8 c = search needs
 
 returns-2 : tie.Need-returns-2 Inv-loop μ-loop
 returns-2 c =
-    let a = c .before .before .before .before .before .before .args in
-    put-after (a .self .len) (2 * length (now (a .part))) _ (c .before .loop .inv .0) (omega arith)
+    let l = c .before in
+    let a = l .before .before .before .before .before .args in
+    let digits = hex-length (a .part .now) in
+    put-after (a .self) (hexOf (a .part .now)) _ _ (omega (arith, digits))
+    (sym (hex-all-put (l .loop .bytes) (a .part .now) (a .self .len) (l .loop .i) (omega arith)) ∙ l .loop .inv .0)
+    (omega (arith, digits))
 
 pub hex-bytes-spec : {M : Type 1} → statement M
 hex-bytes-spec =

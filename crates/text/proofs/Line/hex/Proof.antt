@@ -1,0 +1,28 @@
+-- `text::Line::hex` meets its contract: the digits are put as a word. Assumes nothing.
+use mathlib.Core.Path.{ap, _∙_}
+use Rattle.text.specs.Lines.{withPiece}
+use borrow.Author.Needs.{needs}
+use Rattle.text.proofs.Line.hex.Statement.{statement}
+use Rattle.text.proofs.Line.hex.Tie as tie
+
+hex-requires : tie.Need-hex-requires
+hex-requires c κs = search needs
+
+array-share-prefix-digits : tie.Need-array-share-prefix-digits
+array-share-prefix-digits c = search needs
+
+slice-aggregate-word : tie.Need-slice-aggregate-word
+slice-aggregate-word c = search needs
+
+word-requires : tie.Need-word-requires
+word-requires c κs = search needs
+
+returns : tie.Need-returns
+returns c =
+    let d = c .before .before .hex in
+    record { places = d .result; fewest = d .ensures .1 .0; put = c .word .ensures ∙ ap (withPiece _) (d .ensures .1 .1) }
+
+pub hex-spec : {M : Type 1} → statement M
+hex-spec =
+    tie.close
+    (tie.spec hex-requires array-share-prefix-digits slice-aggregate-word word-requires returns)
