@@ -67,7 +67,10 @@ pub fn mask_audio(payload: &mut [u8], keys: Keys)
         r += 1;
     }
     let start = TAIL + rows * ROW;
-    xor_in(&mut payload[start..], a);
+    // Without this test the compiler lays A out once more, byte by byte, for a rest of no bytes.
+    if start < n {
+        xor_in(&mut payload[start..], a);
+    }
 }
 
 // Makes the tail clear, row by row: `mask` is the clear row before, XORed with V.

@@ -89,11 +89,18 @@ same-length c = search needs
 returns-2 : tie.Need-returns-2 Inv-loop μ-loop
 unfolding maskedAudio
 returns-2 c =
-    let l = c .before .before .before .before .before .loop in
+    let l = c .before .before .before .before .before .before .loop in
     upto-end _ _ _ (length (l .payload)) _
     (upto-xored _ _ _ _ _ _ _ (upto-to (l .inv .3) (omega arith)) (omega arith) (omega arith) (c .before .before .xor-in2 .ensures)
     (λ lane h. audio-row _ _ _ lane (omega arith)))
     refl (omega arith)
+
+same-length-2 : tie.Need-same-length-2 Inv-loop μ-loop
+same-length-2 c = search needs
+
+returns-3 : tie.Need-returns-3 Inv-loop μ-loop
+unfolding maskedAudio
+returns-3 c = upto-end _ _ _ _ _ (c .before .before .loop .inv .3) refl (omega arith)
 
 pub mask-audio-spec : {M : Type 1} → statement M
 mask-audio-spec =
@@ -120,4 +127,6 @@ mask-audio-spec =
     part-xor-in-end-2
     xor-in-requires-2
     same-length
-    returns-2)
+    returns-2
+    same-length-2
+    returns-3)
