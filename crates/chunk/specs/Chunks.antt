@@ -2,7 +2,7 @@
 use Prim.Native.Nat.{ℕ, _+_, _-_, _%_}
 use mathlib.Core.List.{List, []}
 use mathlib.Core.Bool.{Bool, true, false, cond}
-use lib.ListN.{length, take, drop}
+use lib.ListN.{length}
 use lib.Dec.{ltb, eqb}
 use Rattle.laws.specs.Lists.{at}
 use Rattle.word.specs.Numbers.{be16, be32}
@@ -17,10 +17,6 @@ use Rattle.chunk.specs.declared.Kind.the-variants.{Video, Audio, Other, 
 use Rattle.chunk.specs.declared.Chunk.{Chunk}
 use Rattle.chunk.specs.declared.ChunkStep.{ChunkStep}
 use Rattle.chunk.specs.declared.ChunkStep.the-variants.{Over, Found, Refused}
-
--- the bytes that every chunk has: "4 to 44 left: 1"
-unfoldable pub openingAt : List ℕ → ℕ → List ℕ
-openingAt container c = take 45 (drop c container)
 
 -- "kind (`video`, `audio`, `other`, `end`)", numbered in that order
 abbrev pub kindNumber : Kind → ℕ

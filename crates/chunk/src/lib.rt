@@ -3,7 +3,8 @@
 ghost use mathlib.Core.Path.{_≡_};
 ghost use Prim.Native.Nat.{_+_, _≤_};
 ghost use lib.ListN.{length};
-ghost use Rattle.chunk.specs.Chunks.{openingAt, kindNumber, kindAt, isTaken, chunkOf, refusedAt, takenAt, chunkAt, payloadOf, payloadAt};
+ghost use Rattle.chunk.specs.Chunks.{kindNumber, kindAt, isTaken, chunkOf, refusedAt, takenAt, chunkAt, payloadOf, payloadAt};
+ghost use Rattle.chunk.specs.Openings.{openingAt};
 use reading::Reading;
 use refusal::Cause;
 use refusal::Refusal;

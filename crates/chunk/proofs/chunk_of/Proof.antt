@@ -1,8 +1,7 @@
 -- `chunk::chunk_of` meets its contract: each field is what was read. Assumes nothing.
 use mathlib.Core.Path.{_∙_}
-use native.Mathlib.Omega.{arith}
 use Rattle.chunk.proofs.CaseLaws.{read-so}
-use Rattle.chunk.proofs.OpeningLaws.{opening-at, opening-be32, opening-length}
+use Rattle.chunk.proofs.OpeningLaws.{opening-size, opening-type, opening-length}
 use borrow.Author.Needs.{needs}
 use Rattle.chunk.proofs.chunk_of.Statement.{statement}
 use Rattle.chunk.proofs.chunk_of.Tie as tie
@@ -27,7 +26,7 @@ add-next-2 c = search needs
 returns : tie.Need-returns
 returns c =
     let opened = c .before .before .opening-at .ensures in
-    read-so _ _ _ _ _ _ (c .before .before .before .before .pre .1) (opening-at _ _ _ opened 15 (omega arith)) (c .read32 .ensures .0 ∙ opening-be32 _ _ _ opened 4 (omega arith))
+    read-so _ _ _ _ _ _ (c .before .before .before .before .pre .1) (opening-type _ _ _ opened) (c .read32 .ensures .0 ∙ opening-size _ _ _ opened)
 
 pub chunk-of-spec : {M : Type 1} → statement M
 chunk-of-spec =

@@ -2,7 +2,7 @@
 use Prim.Native.Nat.{_+_, _-_}
 use mathlib.Core.Path.{_≡_}
 use native.Mathlib.Omega.{arith}
-use Rattle.chunk.specs.Chunks.{openingAt}
+use Rattle.chunk.specs.Openings.{openingAt}
 use borrow.Author.Needs.{needs}
 use Rattle.chunk.proofs.opening_at.Statement.{statement}
 use Rattle.chunk.proofs.opening_at.Tie as tie

@@ -3,7 +3,7 @@ use mathlib.Core.Path.{ap, _∙_}
 use native.Mathlib.Omega.{arith}
 use Rattle.chunk.specs.declared.ChunkStep.the-variants.{Found}
 use Rattle.chunk.proofs.CaseLaws.{too-small, ran-out, present}
-use Rattle.chunk.proofs.OpeningLaws.{opening-be16, opening-be32}
+use Rattle.chunk.proofs.OpeningLaws.{opening-size, opening-spare}
 use borrow.Author.Needs.{needs}
 use Rattle.chunk.proofs.taken_at.Statement.{statement}
 use Rattle.chunk.proofs.taken_at.Tie as tie
@@ -31,9 +31,7 @@ returns c =
     let t = c .before in
     let r = t .before .before .before in
     let opened = r .before .opening-at .ensures in
-    let header = opening-be16 _ _ _ opened 8 (omega arith) in
-    let footer = opening-be16 _ _ _ opened 10 (omega arith) in
-    c .refused .ensures ∙ too-small _ _ _ _ (r .read32 .ensures .0 ∙ opening-be32 _ _ _ opened 4 (omega arith)) (omega (arith, header, footer)) (t .if1 .taken)
+    c .refused .ensures ∙ too-small _ _ _ _ (r .read32 .ensures .0 ∙ opening-size _ _ _ opened) (omega (arith, opening-spare _ _ _ opened)) (t .if1 .taken)
 
 add-left-from : tie.Need-add-left-from
 add-left-from c = search needs
@@ -49,9 +47,7 @@ returns-2 c =
     let t = c .before .before .before in
     let r = t .before .before .before in
     let opened = r .before .opening-at .ensures in
-    let header = opening-be16 _ _ _ opened 8 (omega arith) in
-    let footer = opening-be16 _ _ _ opened 10 (omega arith) in
-    c .refused2 .ensures ∙ ran-out _ _ _ _ (r .read32 .ensures .0 ∙ opening-be32 _ _ _ opened 4 (omega arith)) (omega (arith, header, footer)) (t .if1 .left) (omega arith)
+    c .refused2 .ensures ∙ ran-out _ _ _ _ (r .read32 .ensures .0 ∙ opening-size _ _ _ opened) (omega (arith, opening-spare _ _ _ opened)) (t .if1 .left) (omega arith)
 
 chunk-of-requires : tie.Need-chunk-of-requires
 chunk-of-requires c κs = search needs
@@ -61,9 +57,7 @@ returns-3 c =
     let t = c .before .before .before in
     let r = t .before .before .before in
     let opened = r .before .opening-at .ensures in
-    let header = opening-be16 _ _ _ opened 8 (omega arith) in
-    let footer = opening-be16 _ _ _ opened 10 (omega arith) in
-    ap Found (c .chunk-of .ensures) ∙ present _ _ _ _ (r .read32 .ensures .0 ∙ opening-be32 _ _ _ opened 4 (omega arith)) (omega (arith, header, footer)) (t .if1 .left) (omega arith)
+    ap Found (c .chunk-of .ensures) ∙ present _ _ _ _ (r .read32 .ensures .0 ∙ opening-size _ _ _ opened) (omega (arith, opening-spare _ _ _ opened)) (t .if1 .left) (omega arith)
 
 pub taken-at-spec : {M : Type 1} → statement M
 taken-at-spec =
