@@ -109,7 +109,8 @@ uint8_t usm_table(const uint8_t *bytes, size_t len, size_t place, uint64_t *repo
 
 /* The words of a cell's report; all three are 0 where the table is refused. The value is an unsigned
  * number, a signed one in 64 bits of two's complement, a float's 32 bits (a NaN's too), or where a
- * string or data starts in `bytes`, 0 for empty data. The length is that of a string or data. */
+ * string or data starts in `bytes`, 0 for empty data and for nothing. The length is that of a string or
+ * data, which lies within `bytes` (proved), else 0. */
 #define USM_WORD_CASE 3
 #define USM_WORD_VALUE 4
 #define USM_WORD_LENGTH 5
@@ -133,8 +134,9 @@ uint8_t usm_cell(const uint8_t *bytes, size_t len, size_t place, const uint8_t *
 /*
  * Films. The container is the `len` bytes at `container`, a whole USM file, and is never written.
  * USM_TOO_LONG comes first, then the first refusal in reading order, and only then USM_SHORT_OUTPUT
- * or USM_SHORT_LIST. `audio` is 0 where audio is not chosen; every other number chooses it. Audio
- * that is not chosen is skipped, unchecked, so a film may be accepted without it and refused with it.
+ * or USM_SHORT_LIST. `audio` is 0 where audio is not chosen; every other number chooses it. Payloads of
+ * audio that is not chosen are skipped, unchecked, so a film may be accepted without it and refused
+ * with it.
  */
 
 /* The longest container that is read. */
@@ -162,7 +164,8 @@ uint8_t usm_cell(const uint8_t *bytes, size_t len, size_t place, const uint8_t *
 #define USM_FILM_WORDS 16
 
 /* Sources of a name: the container, or the fallback, where the container has no name. A name is the
- * bytes that the film has, in any encoding. It may be empty, and hold zero bytes and slashes. */
+ * bytes that the film has, in any encoding. It may be empty, and hold zero bytes and slashes. One that
+ * comes from the container lies within it (proved). */
 #define USM_NAME_IN_CONTAINER 0
 #define USM_NAME_IN_FALLBACK 1
 
@@ -175,8 +178,9 @@ uint8_t usm_cell(const uint8_t *bytes, size_t len, size_t place, const uint8_t *
 /*
  * Extracts both streams of a film: the video payloads into `video`, one after the other, and those of
  * audio that is chosen into `sound`. Bytes past a stream stay. Where one output is too short both
- * stay, and the report has the sizes: lend both with length 0 to learn them. Both streams together are
- * never longer than the container (proved), so an output of its length is always long enough.
+ * stay, and the report has the sizes: lend both with length 0 to learn them (a film whose streams are
+ * both empty is accepted then, with sizes 0). Both streams together are never longer than the container
+ * (proved), so an output of its length is always long enough.
  *
  * With `keyed` 0 there is no key: the streams are as stored, and `key` is not looked at. With every
  * other number `key` is the key, 0 too, and payloads of data type 0 are unmasked, those of audio only
@@ -190,7 +194,8 @@ uint8_t usm_extract(const uint8_t *container, size_t len, uint8_t audio, uint8_t
                     uint8_t *sound, size_t sound_len, uint64_t *report, size_t words);
 
 /* A chunk: the byte of the container where it starts, its kind, its data type (0 to 3), and the bytes
- * of its payload, which begins at start + 32; 0 where it is skipped. 24 bytes. */
+ * of its payload, which begins at start + 32 and lies within the container (proved); 0 where it is
+ * skipped. 24 bytes. */
 struct usm_chunk {
     uint64_t start;
     uint8_t kind;
@@ -210,7 +215,8 @@ struct usm_chunk {
 #define USM_LIST_WORDS 5
 
 /* What usm_list would say with a list of `room` records. Nothing is listed, so `room` may be any
- * number: SIZE_MAX to learn the count, or 0, where the count stands beside USM_SHORT_LIST. */
+ * number: SIZE_MAX to learn the count, or 0, where the count stands beside USM_SHORT_LIST; a film
+ * without chunks is accepted then. */
 uint8_t usm_chunks(const uint8_t *container, size_t len, uint8_t audio, size_t room, uint64_t *report,
                    size_t words);
 
