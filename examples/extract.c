@@ -11,6 +11,7 @@
  * The status is 0 where the film is extracted, 1 where it is refused, 2 where a file or an argument
  * is at fault.
  */
+#include "key.h"
 #include "usm.h"
 
 #include <errno.h>
@@ -23,7 +24,8 @@
 #define REFUSED 1
 #define TROUBLE 2
 
-/* A file's name with its folders, cut where it is longer, and how many bytes a stream's name keeps. */
+/* The room for a path, and how many bytes of a film's name are kept. A path that leaves no room for them
+ * is refused. */
 #define PATH_BYTES 4096
 #define NAME_BYTES 100
 
@@ -132,7 +134,8 @@ static uint8_t try_to_extract(const struct film *film, struct streams *out, uint
                        USM_FILM_WORDS);
 }
 
-/* Extracts both streams: a first call without outputs tells the sizes, a second one writes. */
+/* Extracts both streams: a first call without outputs tells the sizes, a second one writes. Where both
+ * are empty the first is accepted, and there is nothing to write. */
 static void extract(const struct film *film, struct streams *out, uint64_t *report)
 {
     uint8_t number = try_to_extract(film, out, report);
@@ -186,7 +189,7 @@ static void name_files(const struct film *film, const uint64_t *report, char *na
         strcpy(name, film->own_name);
 }
 
-/* Writes a stream to a new file, and prints what it is. */
+/* Writes a stream to a new file, and prints what it is. An empty one may be NULL. */
 static void write_stream(const struct film *film, const char *stream, const char *name, const char *kind,
                          int has_codec, uint64_t codec, const uint8_t *bytes, size_t len)
 {
@@ -195,7 +198,7 @@ static void write_stream(const struct film *film, const char *stream, const char
 
     snprintf(path, sizeof path, "%s%s.%s", film->folder, name, kind);
     file = fopen(path, "wbx");
-    if (file == NULL || fwrite(bytes, 1, len, file) != len || fclose(file) != 0)
+    if (file == NULL || (len != 0 && fwrite(bytes, 1, len, file) != len) || fclose(file) != 0)
         give_up(TROUBLE, "%s: %s", path, strerror(errno));
     printf("%s  %s, %zu bytes, ", stream, kind, len);
     if (has_codec)
@@ -242,17 +245,6 @@ static void print_chunks(const struct film *film)
     free(list);
 }
 
-static void read_key(struct film *film, const char *word)
-{
-    char *end;
-
-    errno = 0;
-    film->key = strtoull(word, &end, 16);
-    film->keyed = 1;
-    if (end == word || *end != '\0' || errno != 0)
-        give_up(TROUBLE, "%s is not a key in hex", word);
-}
-
 int main(int argc, char **argv)
 {
     static struct film film;
@@ -264,8 +256,9 @@ int main(int argc, char **argv)
         fprintf(stderr, "usage: extract FILE [KEY]\n");
         return TROUBLE;
     }
-    if (argc == 3)
-        read_key(&film, argv[2]);
+    film.keyed = argc == 3;
+    if (film.keyed && !read_key(argv[2], &film.key))
+        give_up(TROUBLE, "%s " NO_KEY, argv[2]);
     split_path(&film, argv[1]);
     read_film(&film, argv[1]);
 

@@ -3,10 +3,12 @@
  *
  *     films FOLDER KEY  KEY in hex
  *
- * f.usm is example F of document 01, and cut.usm its first 428 bytes, which are refused. song.usm is a
- * film with sound, masked under the key; song.video and song.audio are its two clear streams.
+ * f.usm is example F of document 01, cut.usm its first 428 bytes, which are refused, and empty.usm its
+ * first 301 bytes, a film without chunks. song.usm is a film with sound, masked under the key;
+ * song.video and song.audio are its two clear streams.
  */
 #include "films.h"
+#include "key.h"
 #include "usm.h"
 
 #include <stdio.h>
@@ -30,16 +32,22 @@ int main(int argc, char **argv)
 {
     static struct song song;
     uint8_t f[F_BYTES];
+    uint64_t key;
 
     if (argc != 3) {
         fprintf(stderr, "usage: films FOLDER KEY\n");
         return 2;
     }
+    if (!read_key(argv[2], &key)) {
+        fprintf(stderr, "films: %s " NO_KEY "\n", argv[2]);
+        return 2;
+    }
     make_f(f);
     write_file(argv[1], "f.usm", f, F_BYTES);
     write_file(argv[1], "cut.usm", f, 428);
+    write_file(argv[1], "empty.usm", f, 301);
 
-    make_song(&song, strtoull(argv[2], NULL, 16));
+    make_song(&song, key);
     write_file(argv[1], "song.usm", song.stored.bytes, song.stored.len);
     write_file(argv[1], "song.video", song.video, song.video_len);
     write_file(argv[1], "song.audio", song.audio, song.audio_len);

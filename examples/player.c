@@ -4,11 +4,11 @@
  *
  *     player KEY        KEY in hex
  */
+#include "key.h"
 #include "usm.h"
 
 #include <inttypes.h>
 #include <stdio.h>
-#include <stdlib.h>
 #include <string.h>
 
 #define PAYLOAD_BYTES 0x260
@@ -67,16 +67,14 @@ int main(int argc, char **argv)
 {
     uint8_t table[USM_KEY_TABLE_BYTES];
     uint64_t key;
-    char *end;
     int video, audio;
 
     if (argc != 2) {
         fprintf(stderr, "usage: player KEY\n");
         return 2;
     }
-    key = strtoull(argv[1], &end, 16);
-    if (end == argv[1] || *end != '\0') {
-        fprintf(stderr, "player: %s is not a key in hex\n", argv[1]);
+    if (!read_key(argv[1], &key)) {
+        fprintf(stderr, "player: %s " NO_KEY "\n", argv[1]);
         return 2;
     }
 
