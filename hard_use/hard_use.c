@@ -10,6 +10,7 @@
 #include "catches.h"
 #include "tries.h"
 
+#include <errno.h>
 #include <inttypes.h>
 #include <signal.h>
 #include <stdio.h>
@@ -18,16 +19,33 @@
 #include <time.h>
 #include <unistd.h>
 
-/* A case that takes longer is at fault, and so often the time is looked at. */
-#define CASE_SECONDS 60
+/* So many cases are tried at a time, in some milliseconds; then the time is looked at. Where they take
+ * longer than this together, a call does not end. */
 #define CASES_AT_A_TIME 256
+#define SECONDS_AT_MOST 60
 #define SECONDS_BETWEEN_LINES 30
 
-/* A page was touched that may not be, or a case does not end. */
+/* The signals that end a run, and what is said of them. */
+static const struct {
+    int number;
+    const char *what;
+} SIGNALS[] = {
+    {SIGSEGV, "SIGSEGV: a page was touched that may not be"},
+    {SIGBUS, "SIGBUS"},
+    {SIGILL, "SIGILL"},
+    {SIGFPE, "SIGFPE"},
+    {SIGALRM, "a call does not end"},
+};
+
+#define SIGNAL_COUNT (sizeof SIGNALS / sizeof SIGNALS[0])
+
 static void give_up(int number)
 {
-    fprintf(stderr, "hard_use: %s\n", number == SIGALRM ? "a call does not end" : strsignal(number));
-    print_case();
+    size_t i;
+
+    for (i = 0; i < SIGNAL_COUNT; i++)
+        if (SIGNALS[i].number == number)
+            print_case(SIGNALS[i].what);
     _exit(1);
 }
 
@@ -48,7 +66,7 @@ static void run_pass(double seconds, uint64_t seed, enum edge edge)
 
     printf("slices %s at a page that may not be touched\n", edge == ENDS ? "end" : "begin");
     while (now - began < seconds) {
-        alarm(CASE_SECONDS);
+        alarm(SECONDS_AT_MOST);
         for (i = 0; i < CASES_AT_A_TIME; i++)
             try_case(seed, number++, edge);
         now = seconds_now();
@@ -80,11 +98,10 @@ static void print_tally(void)
 
 static void catch_signals(void)
 {
-    static const int SIGNALS[] = {SIGSEGV, SIGBUS, SIGILL, SIGFPE, SIGALRM};
     size_t i;
 
-    for (i = 0; i < sizeof SIGNALS / sizeof SIGNALS[0]; i++)
-        signal(SIGNALS[i], give_up);
+    for (i = 0; i < SIGNAL_COUNT; i++)
+        signal(SIGNALS[i].number, give_up);
 }
 
 /* One case again, in both passes. */
@@ -92,30 +109,59 @@ static void try_again(uint64_t seed, uint64_t number)
 {
     make_all_memory();
     catch_signals();
-    alarm(CASE_SECONDS);
+    alarm(SECONDS_AT_MOST);
     try_case(seed, number, ENDS);
     try_case(seed, number, BEGINS);
     printf("as expected\n");
 }
 
+static void give_usage(void)
+{
+    fprintf(stderr, "usage: hard_use SECONDS SEED\n       hard_use case SEED NUMBER\n");
+    exit(2);
+}
+
+/* The number that a whole word is. */
+static uint64_t number_of(const char *word)
+{
+    uint64_t number;
+    char *end;
+
+    errno = 0;
+    number = strtoull(word, &end, 10);
+    if (word[0] < '0' || word[0] > '9' || *end != '\0' || errno != 0)
+        give_usage();
+    return number;
+}
+
+/* The seconds that a whole word is, more than none. */
+static double seconds_of(const char *word)
+{
+    char *end;
+    double seconds = strtod(word, &end);
+
+    if (word[0] < '0' || word[0] > '9' || *end != '\0' || seconds <= 0)
+        give_usage();
+    return seconds;
+}
+
 int main(int argc, char **argv)
 {
-    double seconds = argc == 3 ? strtod(argv[1], NULL) : 0;
+    double seconds;
     uint64_t seed;
 
     setvbuf(stdout, NULL, _IOLBF, 0);
     if (argc == 4 && strcmp(argv[1], "case") == 0) {
-        try_again(strtoull(argv[2], NULL, 10), strtoull(argv[3], NULL, 10));
+        try_again(number_of(argv[2]), number_of(argv[3]));
         return 0;
     }
-    if (seconds <= 0) {
-        fprintf(stderr, "usage: hard_use SECONDS SEED\n       hard_use case SEED NUMBER\n");
-        return 2;
-    }
+    if (argc != 3)
+        give_usage();
+    seconds = seconds_of(argv[1]);
+    seed = number_of(argv[2]);
 
     if (!show_catches())
         return 1;
-    seed = strtoull(argv[2], NULL, 10);
     make_all_memory();
     catch_signals();
     printf("seed %" PRIu64 "\n", seed);

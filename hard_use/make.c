@@ -101,6 +101,12 @@ static unsigned type_by_chance(struct chance *chance)
     return once_in(chance, 100) ? (unsigned)below(chance, 16) : TYPES[below(chance, COUNT(TYPES))];
 }
 
+/* A column's storage: any high nibble, and more often 3, which is a constant. */
+static unsigned storage_by_chance(struct chance *chance)
+{
+    return once_in(chance, 3) ? 0x30 : (unsigned)below(chance, 16) << 4;
+}
+
 /* A column's name: mostly the one that is asked for. */
 static size_t name_by_chance(struct chance *chance, size_t asked)
 {
@@ -118,7 +124,6 @@ static size_t count_by_chance(struct chance *chance, size_t few, size_t limit)
 /* Adds a table, whose columns mostly have the name that is asked for. */
 static void add_whole_table(struct made *made, struct chance *chance, size_t asked)
 {
-    static const unsigned STORAGES[] = {0x30, 0x30, 0x50, 0x50, 0x70, 0x10, 0x00, 0xF0};
     size_t start = made->len, columns = count_by_chance(chance, 4, 64), rows, strings, data, row, i;
     unsigned types[66], storages[66];
 
@@ -126,7 +131,7 @@ static void add_whole_table(struct made *made, struct chance *chance, size_t ask
     add_zeros(made, 32);
     for (i = 0; i < columns; i++) {
         types[i] = type_by_chance(chance);
-        storages[i] = STORAGES[below(chance, COUNT(STORAGES))];
+        storages[i] = storage_by_chance(chance);
         made->bytes[made->len++] = (uint8_t)(storages[i] | types[i]);
         add_number(made, 4, name_by_chance(chance, asked));
         if (storages[i] == 0x30 || storages[i] == 0x70)

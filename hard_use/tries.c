@@ -4,10 +4,10 @@
 #include "calls.h"
 #include "make.h"
 
-#include <inttypes.h>
 #include <stdio.h>
 #include <stdlib.h>
 #include <string.h>
+#include <unistd.h>
 
 #define LIST_BYTES (MADE_BYTES / 8 * sizeof(struct usm_chunk))
 #define FALLBACK_BYTES 300
@@ -44,25 +44,73 @@ void make_all_memory(void)
     make_memory(&lists, LIST_BYTES + 64 * sizeof(struct usm_chunk), 0);
 }
 
-void print_case(void)
+/* Writes to stderr by nothing but write, since printf is not for a signal's handler. */
+static void say(const char *text)
 {
+    size_t left = strlen(text);
+
+    while (left > 0) {
+        ssize_t written = write(STDERR_FILENO, text, left);
+
+        if (written <= 0)
+            return;
+        text += written;
+        left -= (size_t)written;
+    }
+}
+
+static void say_number(uint64_t number)
+{
+    char digits[21], *first = digits + 20;
+
+    *first = '\0';
+    do {
+        *--first = (char)('0' + number % 10);
+        number /= 10;
+    } while (number > 0);
+    say(first);
+}
+
+static void say_bytes(const uint8_t *bytes, size_t len)
+{
+    static const char DIGITS[] = "0123456789abcdef";
+    static char hex[2 * MADE_BYTES + 1];
     size_t i;
 
-    fprintf(stderr, "seed %" PRIu64 ", case %" PRIu64 ", slices %s at the page, last call %s, bytes:\n", case_seed,
-            case_number, case_edge == ENDS ? "end" : "begin", CALL_NAMES[last_call]);
-    for (i = 0; i < made.len; i++)
-        fprintf(stderr, "%02x", made.bytes[i]);
-    fprintf(stderr, "\n");
+    for (i = 0; i < len; i++) {
+        hex[2 * i] = DIGITS[bytes[i] >> 4];
+        hex[2 * i + 1] = DIGITS[bytes[i] & 15];
+    }
+    hex[2 * len] = '\0';
+    say(hex);
+}
+
+void print_case(const char *what)
+{
+    say("hard_use: ");
+    say(what);
+    say("\nseed ");
+    say_number(case_seed);
+    say(", case ");
+    say_number(case_number);
+    say(case_edge == ENDS ? ", slices end" : ", slices begin");
+    say(" at the page, last call ");
+    say(CALL_NAMES[last_call]);
+    say(", bytes:\n");
+    say_bytes(made.bytes, made.len);
+    say("\n");
 }
 
 #define EXPECT(fact) expect((fact), #fact, __LINE__)
 
 static void expect(int holds, const char *fact, int line)
 {
+    char what[512];
+
     if (holds)
         return;
-    fprintf(stderr, "hard_use: not as expected, line %d: %s\n", line, fact);
-    print_case();
+    snprintf(what, sizeof what, "not as expected, line %d: %s", line, fact);
+    print_case(what);
     exit(1);
 }
 

@@ -15,7 +15,8 @@ void make_all_memory(void);
  * expected. */
 void try_case(uint64_t seed, uint64_t number, enum edge edge);
 
-/* Prints which case is being tried, and its bytes, in hex. */
-void print_case(void);
+/* Writes what went wrong to stderr, then which case is being tried, and its bytes in hex. A signal's
+ * handler may call it. */
+void print_case(const char *what);
 
 #endif
