@@ -3,7 +3,7 @@
 /// The private functions behind calls that are never inlined into their caller, those of the masks
 /// each with its own `get_mask`, as an export has.
 pub mod access {
-    use super::{AudioMask, Reader, UsmError, UsmHeaderInfo, UtfTable, VideoMask, io};
+    use super::{AudioMask, ChunkHeader, Reader, UsmError, UsmHeaderInfo, UtfTable, VideoMask, io};
     use std::io::{Read, Seek, SeekFrom};
 
     #[inline(never)]
@@ -44,11 +44,16 @@ pub mod access {
     pub struct Chunk {
         pub letters: [u8; 4],
         pub next: u64,
-        pub block_size: u32,
-        pub header_size: u16,
-        pub footer_size: u16,
         pub data_type: u8,
         pub is_end: bool,
+        header: ChunkHeader,
+    }
+
+    impl Chunk {
+        /// Of a chunk whose payload is read. It panics where the block is too small for its header and footer.
+        pub fn payload_length(&self) -> usize {
+            self.header.read_data_len()
+        }
     }
 
     /// The chunk at a place, at which the reader must stand.
@@ -58,12 +63,14 @@ pub mod access {
         Ok(header.map(|header| Chunk {
             letters: header.sig,
             next: header.next_offset,
-            block_size: header.block_size,
-            header_size: header.chunk_header_size,
-            footer_size: header.chunk_footer_size,
             data_type: header.data_type,
             is_end: header.contents_end,
+            header,
         }))
+    }
+
+    pub fn video_ext(codec: Option<u32>) -> &'static str {
+        super::video_ext(codec)
     }
 
     pub fn audio_ext(codec: Option<u32>) -> &'static str {

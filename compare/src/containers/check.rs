@@ -7,7 +7,7 @@ use std::thread;
 
 use super::call::Call;
 use super::case::Case;
-use super::compare::compare;
+use super::compare::{Difference, compare};
 use super::exports::all_with_null;
 use super::shrink::shrink;
 use super::tally::Tally;
@@ -194,8 +194,15 @@ fn null_is_allowed() -> Result<(), Disagreement> {
     }
 }
 
+/// The smallest case found that differs on the same side.
 fn disagreement(case: &Case) -> Disagreement {
-    let smallest = shrink(case, |case| compare(case).is_err());
-    let what = compare(&smallest).err().unwrap_or_default();
+    let ours = is_ours(case);
+    let smallest = shrink(case, |case| is_ours(case) == ours);
+    let what = compare(&smallest).err().map_or_else(String::new, |difference| difference.to_string());
     Disagreement { what, smallest: Some(smallest) }
+}
+
+/// Whether the difference is one of our calls, where there is a difference.
+fn is_ours(case: &Case) -> Option<bool> {
+    compare(case).err().map(|difference| matches!(difference, Difference::Ours(_)))
 }

@@ -4,14 +4,23 @@ use std::io::{self, Read, Write};
 use std::process::{Command, Stdio};
 use std::sync::Mutex;
 
+use super::answer::Refusal;
 use super::original::{self, Answer};
 
 static ONE_AT_A_TIME: Mutex<()> = Mutex::new(());
 
-/// What the original says of a container, in a line.
-pub fn ask(container: &[u8], audio: bool) -> Result<String, String> {
+/// Why the original refuses a container, if it does.
+pub fn ask(container: &[u8], audio: bool) -> Result<Option<Refusal>, String> {
     let _turn = ONE_AT_A_TIME.lock();
-    run(container, audio).unwrap_or_else(|error| Err(format!("no child process: {error}")))
+    let line = run(container, audio).unwrap_or_else(|error| Err(format!("no child process: {error}")))?;
+    Ok(refusal(&line))
+}
+
+/// The refusal that a child's line tells.
+fn refusal(line: &str) -> Option<Refusal> {
+    let words: Vec<&str> = line.split(' ').collect();
+    let [number, place, column_type] = words[..] else { return None };
+    Some(Refusal { number: number.parse().ok()?, place: place.parse().ok()?, column_type: column_type.parse().ok()? })
 }
 
 fn run(container: &[u8], audio: bool) -> io::Result<Result<String, String>> {
@@ -26,14 +35,13 @@ fn run(container: &[u8], audio: bool) -> io::Result<Result<String, String>> {
     Ok(Ok(String::from_utf8_lossy(&output.stdout).trim_end().to_string()))
 }
 
-/// The child's side: a container from standard input, the line to standard output.
+/// The child's side: a container from standard input; a line to standard output, three numbers for a refusal.
 pub fn answer(audio: bool) -> io::Result<()> {
     let mut container = Vec::new();
     io::stdin().read_to_end(&mut container)?;
     match original::extract(&container, audio, None, b"") {
-        Answer::Accepted(_) => println!("accepted"),
-        Answer::Refused(refusal) => println!("{refusal}"),
-        Answer::Panicked(what) => println!("panicked: {what}"),
+        Answer::Refused(Refusal { number, place, column_type }) => println!("{number} {place} {column_type}"),
+        Answer::Accepted(_) | Answer::Panicked(..) => println!("not refused"),
     }
     Ok(())
 }

@@ -1,6 +1,7 @@
 //! The three functions of libusm.a that read containers, as include/usm.h declares them, behind safe calls; and
 //! the words of their reports.
 
+use std::ops::Range;
 use std::ptr::{null, null_mut};
 
 use super::answer::{Chunk, Kind, Refusal, Tracks};
@@ -8,6 +9,9 @@ use super::answer::{Chunk, Kind, Refusal, Tracks};
 /// The words that a call fixes. With fewer it gives 255 and writes nothing.
 pub const EXTRACT_WORDS: usize = 16;
 pub const CHUNKS_WORDS: usize = 5;
+
+/// The words of an extraction's report that tell the name: whether it is the fallback, where it starts, how long it is.
+pub const NAME: Range<usize> = 4..7;
 
 /// A record of the list. The padding is named, so that it can be seen to stay where a record stays.
 #[repr(C)]
@@ -121,11 +125,8 @@ pub fn all_with_null() -> [u8; 5] {
     ]
 }
 
-/// What an accepted extraction reports.
+/// What an accepted extraction reports, but for the name.
 pub struct Success {
-    pub from_fallback: bool,
-    pub name_start: u64,
-    pub name_length: u64,
     pub tracks: Tracks,
     pub is_ivf: bool,
     pub is_hca: bool,
@@ -134,6 +135,7 @@ pub struct Success {
 }
 
 impl Success {
+    /// Those of the name are 0.
     pub fn words(&self) -> [u64; EXTRACT_WORDS] {
         let Tracks { has_audio, video_codec, audio_codec } = self.tracks;
         let codec = |codec: Option<u32>| [codec.is_some().into(), codec.unwrap_or(0).into()];
@@ -144,9 +146,9 @@ impl Success {
             0,
             0,
             0,
-            self.from_fallback.into(),
-            self.name_start,
-            self.name_length,
+            0,
+            0,
+            0,
             has_audio.into(),
             has_video_codec,
             video_codec,

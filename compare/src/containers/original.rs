@@ -32,7 +32,8 @@ pub struct Header {
 pub enum Answer {
     Accepted(Film),
     Refused(Refusal),
-    Panicked(String),
+    /// With these words, and the start of the block read last.
+    Panicked(String, u64),
 }
 
 /// What the original makes of a container. It panics where a difference overflows.
@@ -42,15 +43,21 @@ pub fn extract(container: &[u8], audio: bool, key: Option<u64>, fallback: &[u8])
     match asked {
         Ok(Ok(streams)) => Answer::Accepted(film(container, audio, fallback, streams)),
         Ok(Err(error)) => Answer::Refused(refusal(&error, watched.block())),
-        Err(panic) => Answer::Panicked(panic.downcast_ref::<&str>().unwrap_or(&"without a word").to_string()),
+        Err(panic) => {
+            let what = panic.downcast_ref::<&str>().unwrap_or(&"without a word");
+            Answer::Panicked(what.to_string(), watched.block())
+        }
     }
 }
 
-/// The header of a container alone.
-pub fn header(container: &[u8], fallback: &[u8]) -> Result<Header, Refusal> {
+/// The header of a container alone, as a film without chunks.
+pub fn without_chunks(container: &[u8], fallback: &[u8]) -> Result<Film, Refusal> {
     let mut watched = Watched::new(container);
     let header = read_header(&mut Reader::new(&mut watched), fallback);
-    header.map_err(|error| refusal(&error, watched.block()))
+    let header = header.map_err(|error| refusal(&error, watched.block()))?;
+    let video_kind = access::video_ext(header.tracks.video_codec).to_string();
+    let audio_kind = access::audio_ext(header.tracks.audio_codec).to_string();
+    Ok(Film { header, video_kind, audio_kind, video: Vec::new(), audio: Vec::new(), chunks: Vec::new() })
 }
 
 fn read_header<R: Read + Seek>(reader: &mut Reader<R>, fallback: &[u8]) -> Result<Header, UsmError> {
@@ -92,8 +99,7 @@ fn chunk(start: u64, header: &access::Chunk, takes_audio: bool) -> Chunk {
         b"@SFA" => (Kind::Audio, takes_audio),
         _ => (Kind::Other, false),
     };
-    let around = u64::from(header.header_size) + u64::from(header.footer_size);
-    let length = if taken { u64::from(header.block_size) - around } else { 0 };
+    let length = if taken { header.payload_length() as u64 } else { 0 };
     Chunk { start, kind, data_type: header.data_type, length }
 }
 

@@ -1,93 +1,75 @@
-//! What a call owes: the original's answer inside the domain, and that of the rules outside. Inside both are the same.
+//! What a call owes: the original's answer, or that of the rules where the original can't be asked.
 
 use super::answer::{Kind, Refusal};
 use super::call::Call;
 use super::case::Case;
 use super::child;
 use super::domain::{Domain, Rule};
-use super::original::{self, Answer, Header, OVERFLOW};
-use super::rules::{Film, Name, Reading};
+use super::original::{self, Answer, Film, Header, OVERFLOW};
+use super::rules::{self, Name, Reading};
 use crate::hex::hex;
 
-pub enum Owed<'a> {
+pub enum Owed {
     Refused(Refusal),
-    Accepted { film: &'a Film, streams: Streams },
+    Accepted(Film),
+    /// A film without a chunk, since the first would begin past the end: the original panics.
+    PastTheEnd(Film),
 }
 
-pub struct Streams {
-    pub video: Vec<u8>,
-    pub audio: Vec<u8>,
-    pub is_ivf: bool,
-    pub is_hca: bool,
-}
-
-/// Asks the original where it can be asked. A difference between it and the rules is told as an error.
-pub fn owed<'a>(case: &Case, call: &Call, reading: &'a Reading, domain: Domain) -> Result<Owed<'a>, String> {
+/// Asks the original where it can be asked.
+pub fn owed(case: &Case, call: &Call, reading: &Reading, domain: Domain) -> Result<Owed, String> {
     match (domain, &reading.answer) {
-        (Domain::Inside, _) => inside(case, call, reading),
-        (Domain::Costly, Err(refusal)) if case.in_child => {
-            let answer = child::ask(case.container(), call.takes_audio())?;
-            same_refusal(&answer, *refusal)?;
-            Ok(Owed::Refused(*refusal))
-        }
-        (Domain::Outside(Rule::TooSmall), Err(refusal)) => {
-            panics(case, call)?;
-            Ok(Owed::Refused(*refusal))
-        }
-        (_, Err(refusal)) => Ok(Owed::Refused(*refusal)),
-        (_, Ok(film)) => {
-            panics(case, call)?;
-            without_chunks(case, call, film)
-        }
+        (Domain::Costly, _) if case.in_child => in_child(case, call),
+        (Domain::Costly | Domain::Outside(Rule::TooMany | Rule::TooLong), Err(refusal)) => Ok(Owed::Refused(*refusal)),
+        _ => original(case, call),
     }
 }
 
-fn inside<'a>(case: &Case, call: &Call, reading: &'a Reading) -> Result<Owed<'a>, String> {
-    let answer = original::extract(case.container(), call.takes_audio(), call.key(), &call.fallback);
-    match (answer, &reading.answer) {
-        (Answer::Panicked(what), _) => Err(format!("the original panics inside the domain: {what}")),
-        (Answer::Refused(refusal), Err(owed)) => {
-            same_refusal(&refusal.to_string(), *owed)?;
-            Ok(Owed::Refused(refusal))
+/// Where the original does not refuse after all, it fills no more than the container has, and can be asked here.
+fn in_child(case: &Case, call: &Call) -> Result<Owed, String> {
+    match child::ask(case.container(), call.takes_audio())? {
+        Some(refusal) => Ok(Owed::Refused(refusal)),
+        None => original(case, call),
+    }
+}
+
+/// The original's own answer. Document 01 has refusal 9 for its panics, but for those at a first chunk past the end.
+fn original(case: &Case, call: &Call) -> Result<Owed, String> {
+    let container = case.container();
+    match original::extract(container, call.takes_audio(), call.key(), &call.fallback) {
+        Answer::Accepted(film) => Ok(Owed::Accepted(film)),
+        Answer::Refused(refusal) => Ok(Owed::Refused(refusal)),
+        Answer::Panicked(what, _) if what != OVERFLOW => {
+            Err(format!("the original panics otherwise than at a difference: {what}"))
         }
-        (Answer::Accepted(original), Ok(film)) => {
-            same_film(case, call, &original, film)?;
-            let original::Film { video_kind, audio_kind, video, audio, .. } = original;
-            let streams = Streams { video, audio, is_ivf: video_kind == "ivf", is_hca: audio_kind == "hca" };
-            Ok(Owed::Accepted { film, streams })
+        Answer::Panicked(_, block) if block > container.len() as u64 => {
+            let film = original::without_chunks(container, &call.fallback);
+            film.map(Owed::PastTheEnd).map_err(|refusal| format!("the original's header walk says {refusal}"))
         }
-        (Answer::Refused(refusal), Ok(_)) => Err(format!("the original says {refusal}, and the rules accept")),
-        (Answer::Accepted(_), Err(refusal)) => Err(format!("the original accepts, and the rules say {refusal}")),
+        Answer::Panicked(_, block) => Ok(Owed::Refused(Refusal::new(9, block))),
     }
 }
 
-/// Where the first chunk would begin past the end the header can still be compared.
-fn without_chunks<'a>(case: &Case, call: &Call, film: &'a Film) -> Result<Owed<'a>, String> {
-    let header = original::header(case.container(), &call.fallback);
-    same_header(case, call, &header.map_err(|refusal| format!("the original's header walk says {refusal}"))?, film)?;
-    let is_ivf = film.tracks.video_codec == Some(9);
-    let is_hca = film.tracks.audio_codec == Some(4);
-    Ok(Owed::Accepted { film, streams: Streams { video: Vec::new(), audio: Vec::new(), is_ivf, is_hca } })
-}
-
-/// The original must panic, and at a difference that overflows.
-fn panics(case: &Case, call: &Call) -> Result<(), String> {
-    match original::extract(case.container(), call.takes_audio(), call.key(), &call.fallback) {
-        Answer::Panicked(what) if what == OVERFLOW => Ok(()),
-        Answer::Panicked(what) => Err(format!("the original panics otherwise than at a difference: {what}")),
-        Answer::Refused(refusal) => Err(format!("outside the domain the original does not panic, but says {refusal}")),
-        Answer::Accepted(_) => Err("outside the domain the original does not panic, but accepts".to_string()),
+/// The rules must say what is owed.
+pub fn same_by_the_rules(case: &Case, call: &Call, owed: &Owed, reading: &Reading) -> Result<(), String> {
+    match (owed, &reading.answer) {
+        (Owed::Refused(original), Err(refusal)) if original == refusal => Ok(()),
+        (Owed::Refused(original), Err(refusal)) => {
+            Err(format!("the original says {original}, and the rules {refusal}"))
+        }
+        (Owed::Refused(original), Ok(_)) => Err(format!("the original says {original}, and the rules accept")),
+        (Owed::Accepted(original), Ok(film)) if film.first <= case.length as u64 => {
+            same_film(case, call, original, film)
+        }
+        (Owed::PastTheEnd(original), Ok(film)) if film.first > case.length as u64 => {
+            same_film(case, call, original, film)
+        }
+        (_, Ok(film)) => Err(format!("the first chunk is at {} by the rules, and not so in the original", film.first)),
+        (_, Err(refusal)) => Err(format!("the original does not refuse, and the rules say {refusal}")),
     }
 }
 
-fn same_refusal(original: &str, rules: Refusal) -> Result<(), String> {
-    if original == rules.to_string() {
-        return Ok(());
-    }
-    Err(format!("the original says {original}, and the rules {rules}"))
-}
-
-fn same_film(case: &Case, call: &Call, original: &original::Film, film: &Film) -> Result<(), String> {
+fn same_film(case: &Case, call: &Call, original: &Film, film: &rules::Film) -> Result<(), String> {
     same_header(case, call, &original.header, film)?;
     let sizes = [film.size(Kind::Video), film.size(Kind::Audio)];
     if original.chunks != film.chunks || sizes != [original.video.len() as u64, original.audio.len() as u64] {
@@ -96,7 +78,7 @@ fn same_film(case: &Case, call: &Call, original: &original::Film, film: &Film) -
     Ok(())
 }
 
-fn same_header(case: &Case, call: &Call, original: &Header, film: &Film) -> Result<(), String> {
+fn same_header(case: &Case, call: &Call, original: &Header, film: &rules::Film) -> Result<(), String> {
     let name = match film.name {
         Name::Part { start, length } => &case.container()[start as usize..][..length as usize],
         Name::Fallback => &call.fallback,

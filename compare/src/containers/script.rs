@@ -99,7 +99,7 @@ fn extracted(film: &Film) -> String {
 fn refused(answer: Answer) -> String {
     match answer {
         Answer::Refused(refusal) => format!("{refusal}\n"),
-        Answer::Panicked(what) => panic!("the original panics inside the domain: {what}"),
+        Answer::Panicked(what, _) => panic!("the original panics inside the domain: {what}"),
         Answer::Accepted(_) => panic!("an accepted container is not refused"),
     }
 }

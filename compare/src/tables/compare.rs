@@ -19,9 +19,8 @@ const OVERFLOW: &str = "attempt to subtract with overflow";
 pub fn compare(case: &Case) -> Result<Seen, String> {
     short_reports(case)?;
     match domain::refusal(case.slice(), case.place) {
-        Some(Refusal::SizeTooSmall) => panicking(case),
-        Some(refusal) => refused(case, refusal, Outcome::Outside(refusal)),
-        None => inside(case),
+        Some(Refusal::OverLimit) => refused(case, Refusal::OverLimit, Outcome::Outside(Refusal::OverLimit)),
+        outside => asked(case, outside.is_some()),
     }
 }
 
@@ -37,23 +36,21 @@ fn short_reports(case: &Case) -> Result<(), String> {
     Ok(())
 }
 
-/// Inside the domain the original's answer is owed.
-fn inside(case: &Case) -> Result<Seen, String> {
-    match original::read(case.slice(), case.place) {
-        Answer::Accepted(table) => accepted(case, &table),
-        Answer::Refused(refusal) => refused(case, refusal, Outcome::Refused(refusal)),
-        Answer::Panicked(what) => Err(format!("the original panics inside the domain: {what}")),
-    }
-}
-
-/// Where the size is below 24 the original panics, and 9 is owed.
-fn panicking(case: &Case) -> Result<Seen, String> {
-    match original::read(case.slice(), case.place) {
+/// The original's answer is owed, and 9 where it panics. That it panics where the size is below 24, and nowhere else,
+/// is looked at after our calls.
+fn asked(case: &Case, is_too_small: bool) -> Result<Seen, String> {
+    let seen = match original::read(case.slice(), case.place) {
+        Answer::Accepted(table) => accepted(case, &table)?,
+        Answer::Refused(refusal) => refused(case, refusal, Outcome::Refused(refusal))?,
         Answer::Panicked(what) if what == OVERFLOW => {
-            refused(case, Refusal::SizeTooSmall, Outcome::Outside(Refusal::SizeTooSmall))
+            refused(case, Refusal::SizeTooSmall, Outcome::Outside(Refusal::SizeTooSmall))?
         }
-        Answer::Panicked(what) => Err(format!("the size is below 24, and the original panics otherwise: {what}")),
-        _ => Err("the size is below 24, and the original does not panic".to_string()),
+        Answer::Panicked(what) => return Err(format!("the original panics otherwise than at a difference: {what}")),
+    };
+    match (is_too_small, matches!(seen.outcome, Outcome::Outside(_))) {
+        (true, false) => Err("the size is below 24, and the original does not panic".to_string()),
+        (false, true) => Err("the original panics inside the domain".to_string()),
+        _ => Ok(seen),
     }
 }
 
