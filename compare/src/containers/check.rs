@@ -12,7 +12,7 @@ use super::exports::all_with_null;
 use super::shrink::shrink;
 use super::tally::Tally;
 use super::{damage, generate, hostile, samples};
-use crate::hex::hex;
+use crate::hex::input;
 use crate::lent::SHORT;
 use crate::random::Random;
 use crate::tables::original::silence_panics;
@@ -23,8 +23,6 @@ const DAMAGED_RANDOM: u64 = 12;
 const PROGRESS: u64 = 50_000;
 /// Of longer containers made by hand no damaged copies are read.
 const MOST_DAMAGED: usize = 4096;
-/// No more of a container is printed.
-const MOST_PRINTED: usize = 1 << 16;
 
 /// The first container that differs, made small.
 pub struct Disagreement {
@@ -39,8 +37,7 @@ impl fmt::Display for Disagreement {
         for call in &case.calls {
             write!(f, "\ncall: {call}")?;
         }
-        let printed = &case.container()[..case.length.min(MOST_PRINTED)];
-        write!(f, "\n{} bytes: {}", case.length, hex(printed))
+        write!(f, "\n{}", input(case.container()))
     }
 }
 

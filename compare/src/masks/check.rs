@@ -4,6 +4,7 @@ use std::fmt;
 
 use super::arena::{Arena, OFFSETS, first_difference};
 use super::{exports, original};
+use crate::hex::input;
 use crate::random::{Random, keys};
 
 /// Acts on a payload in place and gives what the call answers, 0 where it answers nothing.
@@ -48,15 +49,15 @@ fn silent(_: ()) -> usize {
 pub struct Disagreement {
     name: &'static str,
     key: u64,
-    length: usize,
+    payload: Vec<u8>,
     offset: usize,
     what: String,
 }
 
 impl fmt::Display for Disagreement {
     fn fmt(&self, f: &mut fmt::Formatter) -> fmt::Result {
-        let Disagreement { name, key, length, offset, what } = self;
-        write!(f, "{name}, key {key:016X}, length {length}, offset {offset}: {what}")
+        let Disagreement { name, key, payload, offset, what } = self;
+        write!(f, "{name}, key {key:016X}, offset {offset}: {what}\n{}", input(payload))
     }
 }
 
@@ -95,7 +96,7 @@ fn null_is_allowed() -> Result<u64, Disagreement> {
         answer => Err(Disagreement {
             name: "usm_key_table",
             key: 0,
-            length: 0,
+            payload: Vec::new(),
             offset: 0,
             what: format!("at NULL the answer is {answer}, and 0 is owed"),
         }),
@@ -124,7 +125,7 @@ fn compare(pair: &Pair, key: u64, payload: &[u8], offsets: &[usize], arena: &mut
     for &offset in offsets {
         let ours = (pair.ours)(key, arena.place(offset, payload));
         if let Some(what) = difference(ours, answer, &expected, offset, arena) {
-            return Err(Disagreement { name: pair.name, key, length: payload.len(), offset, what });
+            return Err(Disagreement { name: pair.name, key, payload: payload.to_vec(), offset, what });
         }
     }
     Ok(offsets.len() as u64)

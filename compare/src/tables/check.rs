@@ -8,7 +8,7 @@ use super::exports::both_with_null;
 use super::shrink::shrink;
 use super::tally::Tally;
 use super::{damage, generate, original, samples};
-use crate::hex::hex;
+use crate::hex::input;
 use crate::lent::SHORT;
 use crate::random::Random;
 
@@ -26,7 +26,7 @@ impl fmt::Display for Disagreement {
     fn fmt(&self, f: &mut fmt::Formatter) -> fmt::Result {
         write!(f, "{}", self.what)?;
         match &self.smallest {
-            Some(case) => write!(f, "\nplace {}, slice {}", case.place, hex(case.slice())),
+            Some(case) => write!(f, "\nplace {}, {}", case.place, input(case.slice())),
             None => Ok(()),
         }
     }
