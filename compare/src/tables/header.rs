@@ -40,7 +40,7 @@ impl Field {
 
     /// The largest number that fits.
     pub fn max(self) -> u32 {
-        if self.width == 2 { 0xFFFF } else { u32::MAX }
+        u32::MAX >> (32 - 8 * self.width)
     }
 }
 
