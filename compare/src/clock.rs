@@ -1,4 +1,4 @@
-//! The clock of both timings.
+//! The clock of all timings.
 
 use std::time::Instant;
 

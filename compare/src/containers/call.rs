@@ -9,6 +9,20 @@ use crate::random::Random;
 /// The bits of a key that count are 0 to 35 and 40 to 55.
 const IDLE: u64 = 0xFF00_00F0_0000_0000;
 
+/// The choices of `Call::every`. The fourth and fifth key are equal in the bits that count; the last two are random.
+const KEYS: [Option<u64>; 7] = [
+    None,
+    Some(0),
+    Some(u64::MAX),
+    Some(0x0012_3456_789A_BCDE),
+    Some(0x0012_3456_789A_BCDE ^ IDLE),
+    Some(0x8F3A_51C6_D2E7_940B),
+    Some(0x27D4_EB2F_1656_67C5),
+];
+const FALLBACKS: [usize; 3] = [0, 1, 300];
+const ROOMS: [Room; 4] = [Room::Exact, Room::OneLong, Room::OneShort, Room::Empty];
+const EVERY: usize = 2 * KEYS.len() * FALLBACKS.len() * ROOMS.len() * ROOMS.len();
+
 #[derive(Clone)]
 pub struct Call {
     /// Chosen, where it is not 0.
@@ -102,6 +116,35 @@ impl Call {
         let chosen = random.pick(&[1, 1, 1, 2, 255]);
         let roomy = Call { video: Room::Exact, sound: Room::OneLong, ..Call::any(chosen, random) };
         vec![roomy, Call::any(chosen, random), Call::any(0, random)]
+    }
+
+    /// Audio chosen and not, each key, each fallback name, each room for video and each for sound: each with each.
+    /// The list, which is made by a call of its own, has the room of the video.
+    pub fn every() -> Vec<Call> {
+        (0..EVERY).map(Call::numbered).collect()
+    }
+
+    fn numbered(number: usize) -> Call {
+        let mut rest = number;
+        let mut choice = |of: usize| {
+            let choice = rest % of;
+            rest /= of;
+            choice
+        };
+        let key = KEYS[choice(KEYS.len())];
+        let video = ROOMS[choice(ROOMS.len())];
+        Call {
+            audio: choice(2) as u8,
+            keyed: key.is_some().into(),
+            key: key.unwrap_or(u64::MAX),
+            idle: 0,
+            fallback: vec![b'f'; FALLBACKS[choice(FALLBACKS.len())]],
+            video,
+            sound: ROOMS[choice(ROOMS.len())],
+            list: video,
+            longer: number % 2 * 3,
+            short: number % EXTRACT_WORDS,
+        }
     }
 
     pub fn takes_audio(&self) -> bool {

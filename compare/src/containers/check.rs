@@ -47,8 +47,8 @@ enum Batch {
     Costly,
     Longest,
     FarBlocks,
-    /// Hand-made ones, and F followed by zeros.
-    Sound,
+    /// A container made by hand, or F followed by zeros, in every call.
+    Sound(Vec<u8>),
     /// F with the byte at this place at every other value.
     EveryValue(usize),
     /// Every damaged copy of a container made by hand.
@@ -65,7 +65,7 @@ impl Batch {
             Batch::Costly => Box::new(hostile::costly().into_iter()),
             Batch::Longest => Box::new(hostile::longest().into_iter()),
             Batch::FarBlocks => Box::new(hostile::far_blocks().into_iter()),
-            Batch::Sound => Box::new(sound().into_iter()),
+            Batch::Sound(film) => Box::new([Case::new(film, Call::every())].into_iter()),
             Batch::EveryValue(at) => {
                 let f = Case::new(&samples::f(), Vec::new());
                 Box::new(damage::every_value(&f, *at, &mut Random(*at as u64)).into_iter())
@@ -87,7 +87,8 @@ impl Batch {
 
 /// All batches. Those that take longest come first.
 fn batches() -> Vec<Batch> {
-    let mut batches = vec![Batch::Costly, Batch::Longest, Batch::FarBlocks, Batch::Sound];
+    let mut batches = vec![Batch::Costly, Batch::Longest, Batch::FarBlocks];
+    batches.extend(sound().into_iter().map(Batch::Sound));
     batches.extend((0..samples::f().len()).map(Batch::EveryValue));
     batches.extend(samples::all().into_iter().filter(|film| film.len() <= MOST_DAMAGED).map(Batch::Damaged));
     batches.extend((0..RANDOM_BATCHES).map(|seed| Batch::Random(1000 + seed)));
@@ -95,14 +96,13 @@ fn batches() -> Vec<Batch> {
     batches
 }
 
-/// The containers made by hand, each in several calls, and F followed by up to 100 zeros.
-fn sound() -> Vec<Case> {
-    let mut random = Random(7);
+/// The containers made by hand, and F followed by up to 100 zeros.
+fn sound() -> Vec<Vec<u8>> {
     let mut films = samples::all();
     for zeros in 1..=100 {
         films.push([samples::f(), vec![0; zeros]].concat());
     }
-    films.iter().flat_map(|film| [(); 8].map(|()| Case::new(film, Call::some(&mut random)))).collect()
+    films
 }
 
 /// Every comparison; gives the counts, or the first that differs.
