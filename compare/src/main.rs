@@ -8,6 +8,7 @@ mod clock;
 mod damage;
 mod hex;
 mod lent;
+mod panics;
 mod random;
 mod shrink;
 

@@ -1,6 +1,9 @@
 //! Makes a case that fails smaller, as long as it still fails.
 
+use std::iter::successors;
 use std::time::{Duration, Instant};
+
+use crate::damage::{Slice, changed_byte, cut};
 
 /// No step is tried after that time.
 const PATIENCE: Duration = Duration::from_secs(20);
@@ -17,4 +20,17 @@ pub fn smallest<C: Clone>(case: &C, smaller: fn(&C) -> Steps<'_, C>, fails: impl
         smallest = next;
     }
     smallest
+}
+
+pub fn shorter<S: Slice>(case: &S) -> impl Iterator<Item = S> {
+    halves(case.length()).map(|less| cut(case, case.length() - less))
+}
+
+/// Half a number, half of that, and so on down to 1.
+pub fn halves(number: usize) -> impl Iterator<Item = usize> {
+    successors(Some(number / 2), |half| Some(half / 2)).take_while(|&half| half > 0)
+}
+
+pub fn with_a_zero<S: Slice>(case: &S) -> impl Iterator<Item = S> {
+    (0..case.length()).filter(|&at| case.whole()[at] != 0).map(|at| changed_byte(case, at, 0))
 }

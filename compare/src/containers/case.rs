@@ -1,6 +1,7 @@
 //! One container to read, and the calls that read it.
 
 use super::call::Call;
+use crate::damage::Slice;
 
 /// Zero bytes after a container: whoever reads too far finds them.
 const AFTER: usize = 64;
@@ -24,5 +25,19 @@ impl Case {
 
     pub fn container(&self) -> &[u8] {
         &self.whole[..self.length]
+    }
+}
+
+impl Slice for Case {
+    fn whole(&self) -> &[u8] {
+        &self.whole
+    }
+
+    fn length(&self) -> usize {
+        self.length
+    }
+
+    fn parts(&mut self) -> (&mut [u8], &mut usize) {
+        (&mut self.whole, &mut self.length)
     }
 }

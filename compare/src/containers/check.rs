@@ -14,8 +14,8 @@ use super::tally::Tally;
 use super::{damage, generate, hostile, samples};
 use crate::hex::input;
 use crate::lent::SHORT;
+use crate::panics;
 use crate::random::Random;
-use crate::tables::original::silence_panics;
 
 const RANDOM_BATCHES: u64 = 300;
 const RANDOM_IN_BATCH: u64 = 1000;
@@ -107,7 +107,7 @@ fn sound() -> Vec<Vec<u8>> {
 
 /// Every comparison; gives the counts, or the first that differs.
 pub fn run() -> Result<Tally, Disagreement> {
-    silence_panics();
+    panics::silence();
     null_is_allowed()?;
     let batches = batches();
     let work =

@@ -6,7 +6,7 @@ use super::call::Call;
 use super::case::Case;
 use super::rules::{self, INSIDE};
 use super::table_rules;
-use crate::damage::others;
+use crate::damage::{changed_byte, changed_bytes, cut};
 use crate::random::Random;
 use crate::tables::columns::{DATA, STRING, is_constant, width};
 use crate::tables::header::{self, Field};
@@ -30,21 +30,6 @@ fn with_calls(mut cases: Vec<Case>, random: &mut Random) -> Vec<Case> {
         case.calls = Call::some(random);
     }
     cases
-}
-
-fn changed_bytes(case: &Case, at: usize, random: &mut Random) -> Vec<Case> {
-    others(case.whole[at], random).map(|other| changed_byte(case, at, other)).collect()
-}
-
-pub fn changed_byte(case: &Case, at: usize, byte: u8) -> Case {
-    let mut copy = case.clone();
-    copy.whole[at] = byte;
-    copy
-}
-
-/// The container ends here; what was cut off still stands after it, for whoever reads too far.
-pub fn cut(case: &Case, length: usize) -> Case {
-    Case { length, ..case.clone() }
 }
 
 /// The size of a block, and of a chunk those of header and footer and its data type.

@@ -1,16 +1,13 @@
 //! The original's extraction and its walk over the chunks, in the words of document 01.
 
 use std::io::{Cursor, ErrorKind, Read, Seek, SeekFrom};
-use std::panic::{AssertUnwindSafe, catch_unwind};
 
 use oracle::reader::Reader;
 use oracle::usm::extractor::{ExtractedUsmStream, UsmError, access, extract_usm_to_memory};
 
 use super::answer::{Chunk, Kind, Refusal, Tracks};
 use super::watch::Watched;
-
-/// What the original says where a subtraction overflows.
-pub const OVERFLOW: &str = "attempt to subtract with overflow";
+use crate::panics::caught;
 
 /// All that the original tells of a film.
 pub struct Film {
@@ -39,14 +36,10 @@ pub enum Answer {
 /// What the original makes of a container. It panics where a difference overflows.
 pub fn extract(container: &[u8], audio: bool, key: Option<u64>, fallback: &[u8]) -> Answer {
     let mut watched = Watched::new(container);
-    let asked = catch_unwind(AssertUnwindSafe(|| extract_usm_to_memory(&mut watched, fallback, key, audio)));
-    match asked {
+    match caught(|| extract_usm_to_memory(&mut watched, fallback, key, audio)) {
         Ok(Ok(streams)) => Answer::Accepted(film(container, audio, fallback, streams)),
         Ok(Err(error)) => Answer::Refused(refusal(&error, watched.block())),
-        Err(panic) => {
-            let what = panic.downcast_ref::<&str>().unwrap_or(&"without a word");
-            Answer::Panicked(what.to_string(), watched.block())
-        }
+        Err(what) => Answer::Panicked(what, watched.block()),
     }
 }
 

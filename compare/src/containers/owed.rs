@@ -5,9 +5,10 @@ use super::call::Call;
 use super::case::Case;
 use super::child;
 use super::domain::{Domain, Rule};
-use super::original::{self, Answer, Film, Header, OVERFLOW};
+use super::original::{self, Answer, Film, Header};
 use super::rules::{self, Name, Reading};
 use crate::hex::hex;
+use crate::panics::OVERFLOW;
 
 pub enum Owed {
     Refused(Refusal),

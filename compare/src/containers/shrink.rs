@@ -1,13 +1,11 @@
 //! The steps by which a case that fails is made smaller.
 
-use std::iter::successors;
-
 use super::call::{Call, Room};
 use super::case::Case;
-use super::damage::{SIZE, changed_byte, cut, with_field};
+use super::damage::{SIZE, with_field};
 use super::film::empty_table;
 use super::rules::{self, INSIDE};
-use crate::shrink::smallest;
+use crate::shrink::{halves, shorter, smallest, with_a_zero};
 use crate::tables::header;
 
 /// The smallest case that still fails.
@@ -55,15 +53,6 @@ fn plainer(call: &Call) -> Vec<Call> {
     with(call.longer != 0, Call { longer: 0, ..call.clone() });
     with(call.short != 0, Call { short: 0, ..call.clone() });
     calls
-}
-
-fn shorter(case: &Case) -> impl Iterator<Item = Case> {
-    halves(case.length).map(|less| cut(case, case.length - less))
-}
-
-/// Half a number, half of that, and so on down to 1.
-fn halves(number: usize) -> impl Iterator<Item = usize> {
-    successors(Some(number / 2), |half| Some(half / 2)).take_while(|&half| half > 0)
 }
 
 /// The blocks that the rules read, each with the size it claims, as far as they lie in the container.
@@ -114,8 +103,4 @@ fn without(case: &Case, run: std::ops::Range<usize>) -> Case {
     copy.length -= run.len();
     copy.whole.drain(run);
     copy
-}
-
-fn with_a_zero(case: &Case) -> impl Iterator<Item = Case> {
-    (0..case.length).filter(|&at| case.whole[at] != 0).map(|at| changed_byte(case, at, 0))
 }

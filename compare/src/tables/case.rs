@@ -1,6 +1,7 @@
 //! One table to read: a slice, a place in it, and the names that are asked for.
 
 use super::header;
+use crate::damage::Slice;
 
 /// Zero bytes after a slice: a text that is followed out of it ends there, and shows.
 const AFTER: usize = 16;
@@ -37,5 +38,19 @@ impl Case {
 
     pub fn table(&self) -> &[u8] {
         &self.whole[self.place..self.length]
+    }
+}
+
+impl Slice for Case {
+    fn whole(&self) -> &[u8] {
+        &self.whole
+    }
+
+    fn length(&self) -> usize {
+        self.length
+    }
+
+    fn parts(&mut self) -> (&mut [u8], &mut usize) {
+        (&mut self.whole, &mut self.length)
     }
 }

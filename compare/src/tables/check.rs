@@ -7,9 +7,10 @@ use super::compare::compare;
 use super::exports::both_with_null;
 use super::shrink::shrink;
 use super::tally::Tally;
-use super::{damage, generate, original, samples};
+use super::{damage, generate, samples};
 use crate::hex::input;
 use crate::lent::SHORT;
+use crate::panics;
 use crate::random::Random;
 
 const RANDOM_TABLES: u64 = 200_000;
@@ -34,7 +35,7 @@ impl fmt::Display for Disagreement {
 
 /// Every comparison; gives the counts, or the first that differs.
 pub fn run() -> Result<Tally, Disagreement> {
-    original::silence_panics();
+    panics::silence();
     let mut tally = Tally::default();
     let mut random = Random(5);
     for sample in samples::all() {

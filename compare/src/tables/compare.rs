@@ -11,9 +11,7 @@ use super::tally::{Outcome, Seen};
 use super::{domain, header};
 use crate::hex::hex;
 use crate::lent::{lend, lend_short};
-
-/// What the original says where a table's size is below 24, which is refusal 9 here.
-const OVERFLOW: &str = "attempt to subtract with overflow";
+use crate::panics::OVERFLOW;
 
 /// Compares one case; gives what was seen, or the first difference.
 pub fn compare(case: &Case) -> Result<Seen, String> {

@@ -2,7 +2,7 @@
 
 use super::case::Case;
 use super::header::{FIELDS, Field};
-use crate::damage::others;
+use crate::damage::{changed_bytes, cut};
 use crate::random::Random;
 
 /// Every damaged copy of a case.
@@ -14,21 +14,6 @@ pub fn copies(case: &Case, random: &mut Random) -> Vec<Case> {
         copies.extend(FIELDS.into_iter().flat_map(|field| edges(case, field)));
     }
     copies
-}
-
-fn changed_bytes(case: &Case, at: usize, random: &mut Random) -> Vec<Case> {
-    others(case.whole[at], random).map(|other| changed_byte(case, at, other)).collect()
-}
-
-pub fn changed_byte(case: &Case, at: usize, byte: u8) -> Case {
-    let mut copy = case.clone();
-    copy.whole[at] = byte;
-    copy
-}
-
-/// The slice ends here; what was cut off still stands after it, for whoever reads too far.
-pub fn cut(case: &Case, length: usize) -> Case {
-    Case { length, ..case.clone() }
 }
 
 fn edges(case: &Case, field: Field) -> Vec<Case> {

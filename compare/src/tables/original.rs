@@ -1,11 +1,11 @@
 //! The original's reader of tables, in the words of document 01.
 
 use std::io::ErrorKind;
-use std::panic::{AssertUnwindSafe, catch_unwind};
 
 use oracle::usm::extractor::{UsmError, UtfTable, UtfValue, access};
 
 use super::answer::{Cell, Refusal};
+use crate::panics::caught;
 
 /// A table as the original has it: a map from decoded names to values for each row.
 pub struct Table(UtfTable);
@@ -18,21 +18,11 @@ pub enum Answer {
 
 /// What the original makes of the table that begins at `place`. It panics where a sum overflows.
 pub fn read(bytes: &[u8], place: usize) -> Answer {
-    match catch_unwind(AssertUnwindSafe(|| access::get_utf_table(bytes, place as u64))) {
+    match caught(|| access::get_utf_table(bytes, place as u64)) {
         Ok(Ok(table)) => Answer::Accepted(Table(table)),
         Ok(Err(error)) => Answer::Refused(refusal(&error)),
-        Err(panic) => Answer::Panicked(panic.downcast_ref::<&str>().unwrap_or(&"without a word").to_string()),
+        Err(what) => Answer::Panicked(what),
     }
-}
-
-/// Keeps a caught panic of the original from being printed. Other panics are printed as always.
-pub fn silence_panics() {
-    let printed = std::panic::take_hook();
-    std::panic::set_hook(Box::new(move |panic| {
-        if !panic.location().is_some_and(|place| place.file().contains("oracle")) {
-            printed(panic);
-        }
-    }));
 }
 
 /// A name that the original keeps as it is. It decodes names: one that is not UTF-8 becomes another,

@@ -5,6 +5,7 @@ use super::columns::{CONSTANT, DATA, FLOAT, KNOWN_TYPES, STORED, STRING, UNKNOWN
 use super::damage;
 use super::header::{COLUMNS, DATA_OFFSET, ROW_OFFSET, ROWS, SIZE, STRING_OFFSET};
 use super::sketch::Sketch;
+use crate::damage::cut;
 
 pub fn all() -> Vec<Case> {
     let groups =
@@ -264,8 +265,8 @@ fn slices() -> Vec<Case> {
     let mut cases: Vec<Case> = texts.map(|slice| Case::new(slice, 0, vec![b"a".to_vec()])).into();
     let table = one_column(STORED, &[], &[&[1]]);
     let size = SIZE.get(table.table());
-    let without_last_byte = damage::cut(&table, table.length - 1);
-    cases.extend([31, 32].map(|length| damage::cut(&table, length)));
+    let without_last_byte = cut(&table, table.length - 1);
+    cases.extend([31, 32].map(|length| cut(&table, length)));
     cases.extend([24, size - 1, size + 1].map(|size| damage::with_field(&table, SIZE, size)));
     cases.extend([(COLUMNS, 1), (COLUMNS, 65), (ROWS, 257)].map(|(f, n)| damage::with_field(&without_last_byte, f, n)));
     cases.push(followed(&table, size));

@@ -1,11 +1,9 @@
 //! The steps by which a case that fails is made smaller.
 
-use std::iter::successors;
-
 use super::case::Case;
-use super::damage::{changed_byte, cut, with_field};
+use super::damage::with_field;
 use super::header;
-use crate::shrink::smallest;
+use crate::shrink::{halves, shorter, smallest, with_a_zero};
 
 /// The smallest case that still fails.
 pub fn shrink(case: &Case, fails: impl Fn(&Case) -> bool) -> Case {
@@ -37,15 +35,6 @@ fn without_a_name(case: &Case) -> impl Iterator<Item = Case> {
         copy.names.remove(index);
         copy
     })
-}
-
-fn shorter(case: &Case) -> impl Iterator<Item = Case> {
-    halves(case.length).map(|less| cut(case, case.length - less))
-}
-
-/// Half a number, half of that, and so on down to 1.
-fn halves(number: usize) -> impl Iterator<Item = usize> {
-    successors(Some(number / 2), |half| Some(half / 2)).take_while(|&half| half > 0)
 }
 
 fn with_smaller_counts(case: &Case) -> impl Iterator<Item = Case> {
@@ -86,8 +75,4 @@ fn without_run(case: &Case, at: usize, run: usize) -> impl Iterator<Item = Case>
 fn lessen(case: &mut Case, field: header::Field, less: usize) {
     let number = field.get(case.table());
     field.set(case.table_mut(), number.saturating_sub(less as u32));
-}
-
-fn with_a_zero(case: &Case) -> impl Iterator<Item = Case> {
-    (0..case.length).filter(|&at| case.whole[at] != 0).map(|at| changed_byte(case, at, 0))
 }
