@@ -39,10 +39,7 @@ pub enum Ahead {
     Cut,
 }
 
-// The bytes of a block's letters.
-const LETTERS: usize = 4;
-
-// The bytes of its letters and its size.
+// The bytes of a block's letters and its size.
 const HEAD: usize = 8;
 
 // A refusal of the block at a place.
@@ -57,7 +54,7 @@ fn head_at(bytes: &[u8], letters: usize, missing: Cause, place: usize) -> BlockA
     ensures { λ r. ⌜ r ≡ headAt (now (bytes .entry)) letters missing place ⌝ }
 {
     let left = word::left_from(bytes, place);
-    if left < LETTERS {
+    if left < letters::LETTERS {
         return refused(Cause::RanOut, place);
     }
     if word::read32(bytes, place) != letters {
@@ -66,7 +63,7 @@ fn head_at(bytes: &[u8], letters: usize, missing: Cause, place: usize) -> BlockA
     if left < HEAD {
         return refused(Cause::RanOut, place);
     }
-    BlockAnswer::Next(place + HEAD + word::read32(bytes, place + LETTERS))
+    BlockAnswer::Next(place + HEAD + word::read32(bytes, place + letters::LETTERS))
 }
 
 // The marker of the block at a place. Another is refused as `unmarked`.
@@ -189,7 +186,7 @@ pub fn name_block(bytes: &[u8]) -> NameBlock
 pub fn ahead_at(bytes: &[u8], place: usize) -> Ahead
     ensures { λ r. ⌜ r ≡ aheadAt (now (bytes .entry)) place ⌝ }
 {
-    if word::left_from(bytes, place) < LETTERS {
+    if word::left_from(bytes, place) < letters::LETTERS {
         return Ahead::Cut;
     }
     if word::read32(bytes, place) == letters::SFA {
@@ -210,7 +207,7 @@ fn chunks_after(place: usize) -> usize
 pub fn last_block(bytes: &[u8], place: usize) -> BlockAnswer
     ensures { λ r. ⌜ r ≡ lastBlock (now (bytes .entry)) place ⌝ }
 {
-    if word::left_from(bytes, place) < LETTERS {
+    if word::left_from(bytes, place) < letters::LETTERS {
         return refused(Cause::RanOut, place);
     }
     if word::read32(bytes, place) != letters::SFV {

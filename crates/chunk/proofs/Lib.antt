@@ -2,3 +2,4 @@ pub mod CaseLaws
 pub mod FoundLaws
 pub mod OneAnswer
 pub mod OpeningLaws
+pub mod Promises

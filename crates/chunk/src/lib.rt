@@ -33,9 +33,6 @@ pub enum ChunkStep {
     Refused(Refusal),
 }
 
-// With fewer bytes left, the chunks end.
-const LETTERS: usize = 4;
-
 // The bytes that every chunk has: as many as an end chunk needs.
 const OPENING: usize = 45;
 
@@ -136,12 +133,13 @@ fn taken_at(container: &[u8], place: usize, kind: Kind) -> ChunkStep
     ChunkStep::Found(chunk_of(container, place, kind, len))
 }
 
-// The chunk at a place, or that the chunks end there, or why it is refused.
+// The chunk at a place, or that the chunks end there, or why it is refused. `reading` is how this film is read: where the
+// film has no audio, `reading::applied_to` has said so.
 pub fn chunk_at(container: &[u8], place: usize, reading: Reading) -> ChunkStep
     ensures { λ r. ⌜ r ≡ chunkAt (now (container .entry)) reading place ⌝ }
 {
     let left = word::left_from(container, place);
-    if left < LETTERS {
+    if left < letters::LETTERS {
         return ChunkStep::Over;
     }
     if left < OPENING {

@@ -18,7 +18,7 @@ pub struct Unmasking {
     pub keys: Keys,
 }
 
-// The codec of ADX sound, the only one that is masked: the others have a cipher of their own.
+// The codec of ADX sound, the only one that is masked.
 const ADX: u32 = 2;
 
 // The data type of a masked payload.

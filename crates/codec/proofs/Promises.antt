@@ -8,10 +8,10 @@ use lib.IntN.{pos, negsuc}
 use Rattle.cell.specs.declared.Cell.the-variants.{Signed}
 use Rattle.codec.specs.declared.Codec.the-variants.{Value}
 use Rattle.codec.specs.Codecs.{codecOf}
-use Rattle.codec.specs.Promises.{SignedBitsKept}
+use Rattle.codec.specs.Promises as promised
 
-pub signed-bits-kept : SignedBitsKept
-signed-bits-kept bits h = go (leb bits 0x7FFFFFFF)
+pub SignedBitsKept : promised.SignedBitsKept
+SignedBitsKept bits h = go (leb bits 0x7FFFFFFF)
   where
     go : (b : Bool) → codecOf (Signed (cond b (pos bits) (negsuc (0xFFFFFFFF - bits)))) ≡ Value bits
     go true = refl

@@ -1,6 +1,6 @@
 -- The laws of a typed key, one for each way through the code that reads it. Assumes nothing.
 use mathlib.Core.Path.{_≡_, refl, sym, _∙_}
-use mathlib.Core.Bool.{Bool, true, false, _&&_, false≢true}
+use mathlib.Core.Bool.{true, false, false≢true, and-false}
 use mathlib.Core.List.{List, [], _∷_}
 use Prim.Native.Nat.{ℕ, _+_, _-_, _*_, _^_, _≤_, _<_}
 use native.Mathlib.Omega.{arith}
@@ -14,10 +14,6 @@ use lib.Pow.{pow-mono, pow-add}
 use lib.Seq.{drop-cons, drop-length, take-all}
 use Rattle.digits.specs.declared.Typed.the-variants.{Key, NotAKey}
 use Rattle.digits.specs.TypedKeys.{between, hexValue, prefixed, valueFrom, digitsRead, keyTyped}
-
-and-false : (t : Bool) → (t && false) ≡ false
-and-false true = refl
-and-false false = refl
 
 pub inside : (low high n : ℕ) → low ≤ n → n ≤ high → between low high n ≡ true
 unfolding between

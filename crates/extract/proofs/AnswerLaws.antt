@@ -1,8 +1,8 @@
--- Each answer of an extraction, with both outputs after it, from the survey and the tests. Assumes nothing.
+-- Each answer of an extraction, with both outputs after it, from the survey and the tests; and back: what a film's answer tells. Assumes nothing.
 use Prim.Native.Nat.{ℕ, _+_, _≤_}
 use mathlib.Core.Path.{_≡_, refl, sym, ap, _∙_}
 use mathlib.Core.List.{List}
-use mathlib.Core.Bool.{Bool, true, false, _||_}
+use mathlib.Core.Bool.{Bool, true, false, cond, _||_}
 use native.Mathlib.Omega.{arith}
 use lib.ListN.{length}
 use lib.Seq.{sets}
@@ -28,7 +28,7 @@ use Rattle.extract.specs.Streams.{videoStream, audioStream}
 use Rattle.extract.specs.Extraction.{contentsOf, refusedBy, Extraction}
 
 -- neither of two outputs is short
-both-long : (a b c d : ℕ) → (ltb a b || ltb c d) ≡ false → (b ≤ a) × (d ≤ c)
+pub both-long : (a b c d : ℕ) → (ltb a b || ltb c d) ≡ false → (b ≤ a) × (d ≤ c)
 both-long a b c d e = by-test (ltb a b) (ltb c d) refl refl e
   where
     by-test : (s t : Bool) → ltb a b ≡ s → ltb c d ≡ t → (s || t) ≡ false → (b ≤ a) × (d ≤ c)
@@ -36,10 +36,17 @@ both-long a b c d e = by-test (ltb a b) (ltb c d) refl refl e
     by-test false true p q r = let z : _≡_ {A = ℕ} 0 1 = cc in absurd (omega arith)
     by-test false false p q r = (ltb-false a b p, ltb-false c d q)
 
+-- the answer is a film only where neither test refuses
+pub both-passed : (s t : Bool) (first second : Refusal) (held contents : Contents)
+    → extracted.Film contents ≡ cond s (extracted.Refused first) (cond t (extracted.Refused second) (extracted.Film held)) → (t ≡ false) × (held ≡ contents)
+both-passed true t first second held contents e = let z : _≡_ {A = ℕ} 0 1 = cc in absurd (omega arith)
+both-passed false true first second held contents e = let z : _≡_ {A = ℕ} 0 1 = cc in absurd (omega arith)
+both-passed false false first second held contents e = (refl, cc)
+
 -- the sizes of a film that was surveyed are those of the chunks from where its header says
 module _ (container : List ℕ) (reading : Reading) (header : Header) (count seen heard : ℕ) (e : surveyOf (filmOf container reading) ≡ survey.Film header count seen heard) where
   abbrev chunks : List Chunk
-  chunks = walkFrom container (appliedTo (header .audio) reading) (header .chunks) .chunks
+  chunks = walkFrom container (appliedTo (header .audio) reading) (header .start) .chunks
 
   pub its-film : filmOf container reading ≡ film header chunks
   its-film = surveyed-film container reading header count seen heard e
@@ -49,7 +56,7 @@ module _ (container : List ℕ) (reading : Reading) (header : Header) (count see
 
   -- where neither output is short, both streams have room
   pub both-fit : (videoRoom audioRoom : ℕ) → (ltb videoRoom seen || ltb audioRoom heard) ≡ false → (applied : Reading) → applied ≡ appliedTo (header .audio) reading
-      → (videoSize (walkFrom container applied (header .chunks) .chunks) ≤ videoRoom) × (audioSize (walkFrom container applied (header .chunks) .chunks) ≤ audioRoom)
+      → (videoSize (walkFrom container applied (header .start) .chunks) ≤ videoRoom) × (audioSize (walkFrom container applied (header .start) .chunks) ≤ audioRoom)
   both-fit videoRoom audioRoom room applied a =
       let l = both-long videoRoom seen audioRoom heard room in
       rw a (omega (arith, its-sizes .0, l .0), omega (arith, its-sizes .1, l .1))
@@ -70,9 +77,9 @@ module _ (container : List ℕ) (reading : Reading) (key : Key) (video audio : L
       short-output t r q = rw q (rw (e, fits, t), refl, refl)
 
       pub extracted-film : (ltb (length video) seen || ltb (length audio) heard) ≡ false → (applied : Reading) → applied ≡ appliedTo (header .audio) reading
-          → (unmasking : Unmasking) → unmasking ≡ unmaskingOf key (header .sound) → (contents : Contents) → contents ≡ contentsOf header seen heard
-          → (video′ audio′ : List ℕ) → video′ ≡ sets video 0 (videoStream container unmasking (walkFrom container applied (header .chunks) .chunks))
-          → audio′ ≡ sets audio 0 (audioStream container unmasking (walkFrom container applied (header .chunks) .chunks))
+          → (unmasking : Unmasking) → unmasking ≡ unmaskingOf key (header .«audio_codec») → (contents : Contents) → contents ≡ contentsOf header seen heard
+          → (video′ audio′ : List ℕ) → video′ ≡ sets video 0 (videoStream container unmasking (walkFrom container applied (header .start) .chunks))
+          → audio′ ≡ sets audio 0 (audioStream container unmasking (walkFrom container applied (header .start) .chunks))
           → Extraction container reading key video audio (extracted.Film contents) video′ audio′
       extracted-film room applied a unmasking u contents q video′ audio′ v w =
           let f = its-film container reading header count seen heard e in

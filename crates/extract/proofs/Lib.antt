@@ -2,5 +2,6 @@ pub mod PutLaws
 pub mod StreamLaws
 pub mod WrittenLaws
 pub mod AnswerLaws
+pub mod ResultLaws
 pub mod Promises
 pub mod OneAnswer

@@ -6,13 +6,15 @@ use mathlib.Core.List.{List}
 use mathlib.Core.Bool.{Bool, true, false, cond, _&&_}
 use native.Mathlib.Omega.{arith}
 use lib.ListN.{length}
-use lib.Bits.{xor-self}
+use lib.Bits.{bitXor, xor-self}
 use lib.Dec.{leb, eqb}
 use borrow.Author.Tests.{leb-true, leb-false}
 use Rattle.laws.specs.Lists.{at}
+use Rattle.laws.proofs.OneAnswer.{no-second-answer}
 use Rattle.reading.specs.Choices.{appliedTo}
-use Rattle.key.specs.declared.Keys.{Keys}
+use Rattle.codec.specs.declared.Codec.{Codec}
 use Rattle.key.specs.KeyTable.{keysOf}
+use Rattle.key.specs.CountingBits.{AgreeWhereItCounts}
 use Rattle.key.proofs.KeyBits.{same-keys}
 use Rattle.mask.specs.Video.{unmaskedVideo}
 use Rattle.mask.specs.Audio.{maskedAudio}
@@ -20,14 +22,19 @@ use Rattle.mask.specs.Positions.{difference, videoDiffers, audioDiffers}
 use Rattle.mask.specs.Promises.{apart}
 use Rattle.mask.proofs.Promises.{ShortVideoStays, VideoDiffersByD, AudioDiffersByD}
 use Rattle.chunk.specs.Chunks.{payloadOf}
-use Rattle.walk.proofs.Promises.{SizesFitContainer}
+use Rattle.walk.proofs.Promises.{SizesFitWhatIsLeft}
+use Rattle.clear.specs.declared.Key.the-variants.{Given}
+use Rattle.clear.specs.declared.Unmasking.{Unmasking}
 use Rattle.clear.specs.Unmasking.{isAdx, unmaskingOf}
-use Rattle.film.specs.Films.{film, refused, filmOf, surveyOf}
+use Rattle.film.specs.Films.{Film, film, refused, filmOf, surveyOf}
+use Rattle.extract.specs.declared.Extracted.the-variants as extracted
 use Rattle.extract.specs.Streams.{videoPart, audioPart, videoStream, audioStream}
-use Rattle.extract.specs.Extraction.{extractedIn}
+use Rattle.extract.specs.Extraction.{extractedIn, videoOf, audioOf}
 use Rattle.extract.specs.Promises as promised
+use Rattle.extract.specs.Promises.{SameFrom}
 use Rattle.extract.proofs.StreamLaws.{videoUnder, audioUnder, stream-length}
 use Rattle.extract.proofs.AnswerLaws.{its-film, its-sizes}
+use Rattle.extract.proofs.ResultLaws.{stays-past, both-hold, video-at, audio-at}
 
 pub NoKeyChangesTheAnswer : promised.NoKeyChangesTheAnswer
 NoKeyChangesTheAnswer container reading key key′ video audio video′ audio′ r r′ videoAfter audioAfter videoAfter′ audioAfter′ v a e e′ =
@@ -38,23 +45,50 @@ RefusalsLeaveBothOutputs container reading key video audio videoAfter audioAfter
 
 pub SizesAreTheStreams : promised.SizesAreTheStreams
 SizesAreTheStreams container reading key header count video audio e =
-    let by = unmaskingOf key (header .sound) in
+    let by = unmaskingOf key (header .«audio_codec») in
     let applied = appliedTo (header .audio) reading in
     let sizes = its-sizes container reading header count video audio e in
     rw (its-film container reading header count video audio e)
-    (stream-length (videoUnder by) container applied (header .chunks) ∙ sizes .0, stream-length (audioUnder by) container applied (header .chunks) ∙ sizes .1)
+    (stream-length (videoUnder by) container applied (header .start) ∙ sizes .0, stream-length (audioUnder by) container applied (header .start) ∙ sizes .1)
 
 pub SizesFitTheContainer : promised.SizesFitTheContainer
 SizesFitTheContainer container reading header count video audio e =
     let sizes = its-sizes container reading header count video audio e in
-    omega (arith, sizes .0, sizes .1, SizesFitContainer container (appliedTo (header .audio) reading) (header .chunks))
+    omega (arith, sizes .0, sizes .1, SizesFitWhatIsLeft container (appliedTo (header .audio) reading) (header .start))
+
+pub BytesPastTheStreamsStay : promised.BytesPastTheStreamsStay
+BytesPastTheStreamsStay container reading key video audio videoAfter audioAfter contents e = by-film (filmOf container reading) refl
+  where
+    by-film : (f : Film) → filmOf container reading ≡ f → SameFrom (contents .«video_size») video videoAfter × SameFrom (contents .«audio_size») audio audioAfter
+    by-film (film header chunks) f =
+        let by = unmaskingOf key (header .«audio_codec») in
+        let hold = both-hold container reading header chunks f key video audio videoAfter audioAfter contents e in (
+          stays-past (videoUnder by) container (contents .«video_size») video videoAfter chunks (hold .0),
+          stays-past (audioUnder by) container (contents .«audio_size») audio audioAfter chunks (hold .1),
+        )
+    by-film (refused refusal) f =
+        let q : extracted.Film contents ≡ extracted.Refused refusal = rw f at (e .0) in
+        let z : _≡_ {A = ℕ} 0 1 = cc in
+        absurd (omega arith)
+
+-- ---- keys that agree where it counts
+
+module _ (key key′ : ℕ) (a : AgreeWhereItCounts key key′) where
+  same-unmasking : (codec : Codec) → unmaskingOf (Given key) codec ≡ unmaskingOf (Given key′) codec
+  same-unmasking codec = rw (same-keys key key′ a)
+
+  one-film : (container : List ℕ) (f : Film) → (videoOf container (Given key) f ≡ videoOf container (Given key′) f) × (audioOf container (Given key) f ≡ audioOf container (Given key′) f)
+  one-film container (film header chunks) = (
+    ap (λ (by : Unmasking). videoStream container by chunks) (same-unmasking (header .«audio_codec»)),
+    ap (λ (by : Unmasking). audioStream container by chunks) (same-unmasking (header .«audio_codec»)),
+  )
+  one-film container (refused refusal) = (refl, refl)
 
 pub OneFilmWhereBitsAgree : promised.OneFilmWhereBitsAgree
-OneFilmWhereBitsAgree key key′ a container (film header chunks) = (
-  ap (λ (keys : Keys). videoStream container (record { video = true; audio = isAdx (header .sound); keys = keys }) chunks) (same-keys key key′ a),
-  ap (λ (keys : Keys). audioStream container (record { video = true; audio = isAdx (header .sound); keys = keys }) chunks) (same-keys key key′ a),
-)
-OneFilmWhereBitsAgree key key′ a container (refused refusal) = (refl, refl)
+OneFilmWhereBitsAgree container reading key key′ video audio r r′ videoAfter audioAfter videoAfter′ audioAfter′ a e e′ =
+    let one = one-film key key′ a container (filmOf container reading) in
+    let q = no-second-answer (e .0) (e′ .0) in
+    (q, (rw (q, one .0) at (e .1)) ∙ sym (e′ .1), (rw (q, one .1) at (e .2)) ∙ sym (e′ .2))
 
 -- ---- payload by payload
 
@@ -80,10 +114,14 @@ module _ (key key′ : ℕ) (payload : List ℕ) (p : ℕ) (h : p < length paylo
   audio-by false = xor-self (at payload p)
 
 pub VideoDiffersPayloadByPayload : promised.VideoDiffersPayloadByPayload
-VideoDiffersPayloadByPayload key key′ codec container chunk p h =
+VideoDiffersPayloadByPayload container reading key key′ video audio videoAfter audioAfter videoAfter′ audioAfter′ contents contents′ header before after chunk p e e′ f h =
     let payload = videoPart (chunk .kind) (payloadOf container chunk) in
-    video-by key key′ payload p h (eqb (chunk .tag) 0) (leb 0x240 (length payload)) refl
+    ap₂ bitXor (video-at container reading header before after chunk f (Given key) video audio videoAfter audioAfter contents e p h)
+    (video-at container reading header before after chunk f (Given key′) video audio videoAfter′ audioAfter′ contents′ e′ p h)
+    ∙ video-by key key′ payload p h (eqb (chunk .tag) 0) (leb 0x240 (length payload)) refl
 
 pub AudioDiffersPayloadByPayload : promised.AudioDiffersPayloadByPayload
-AudioDiffersPayloadByPayload key key′ codec container chunk p h =
-    audio-by key key′ (audioPart (chunk .kind) (payloadOf container chunk)) p h (isAdx codec && eqb (chunk .tag) 0)
+AudioDiffersPayloadByPayload container reading key key′ video audio videoAfter audioAfter videoAfter′ audioAfter′ contents contents′ header before after chunk p e e′ f h =
+    ap₂ bitXor (audio-at container reading header before after chunk f (Given key) video audio videoAfter audioAfter contents e p h)
+    (audio-at container reading header before after chunk f (Given key′) video audio videoAfter′ audioAfter′ contents′ e′ p h)
+    ∙ audio-by key key′ (audioPart (chunk .kind) (payloadOf container chunk)) p h (isAdx (header .«audio_codec») && eqb (chunk .tag) 0)

@@ -1,8 +1,8 @@
 -- A stream takes a part of each payload, by the chunk's kind, and makes it clear at its own length. The payload of a chunk that was found is in the
 -- container, so a stream is as long as its size says. Assumes nothing.
-use Prim.Native.Nat.{ℕ, zero, suc, _+_, _≤_}
-use mathlib.Core.Path.{_≡_, refl, ap₂, _∙_}
-use mathlib.Core.List.{List}
+use Prim.Native.Nat.{ℕ, _+_, _≤_}
+use mathlib.Core.Path.{_≡_, refl, sym, ap₂, _∙_}
+use mathlib.Core.List.{List, [], _∷_, _++_, append-nil, append-assoc}
 use mathlib.Core.Bool.{Bool, true, false, cond}
 use native.Mathlib.Omega.{arith}
 use lib.ListN.{length, drop, length-append, length-drop}
@@ -15,11 +15,11 @@ use Rattle.mask.proofs.UndoLaws.{video-length, audio-length}
 use Rattle.chunk.specs.declared.Kind.{Kind}
 use Rattle.chunk.specs.declared.Kind.the-variants.{Video, Audio, Other, End}
 use Rattle.chunk.specs.declared.Chunk.{Chunk}
-use Rattle.chunk.specs.declared.ChunkStep.{ChunkStep}
-use Rattle.chunk.specs.declared.ChunkStep.the-variants.{Over, Found, Refused}
+use Rattle.chunk.specs.declared.ChunkStep.the-variants.{Found}
 use Rattle.chunk.specs.Chunks.{chunkAt, payloadOf}
 use Rattle.chunk.proofs.FoundLaws.{found}
-use Rattle.walk.specs.Walks.{goOn, walkFor, walkFrom, videoIn, audioIn, sizeOf}
+use Rattle.walk.specs.Walks.{walkFrom, videoIn, audioIn, sizeOf}
+use Rattle.walk.proofs.WalkLaws.{every-walk}
 use Rattle.clear.specs.declared.Unmasking.{Unmasking}
 use Rattle.clear.specs.Unmasking.{isMasked, clearVideo, clearAudio}
 use Rattle.extract.specs.Streams.{videoPart, audioPart, joined}
@@ -87,24 +87,32 @@ module _ (container : List ℕ) (reading : Reading) (c : ℕ) (chunk : Chunk) (e
       stream .keeps (chunk .tag) (stream .part (chunk .kind) (payloadOf container chunk))
       ∙ stream .parted (chunk .kind) (payloadOf container chunk) ∙ rw payload-length
 
+-- the pieces of two lists of chunks
+pub joined-append : (piece : Chunk → List ℕ) (before after : List Chunk) → joined piece (before ++ after) ≡ joined piece before ++ joined piece after
+unfolding joined
+joined-append piece [] after = refl
+joined-append piece (chunk ∷ before) after = rw (joined-append piece before after, append-assoc)
+
 module _ (stream : Stream) (container : List ℕ) (reading : Reading) where
-  abbrev Sized : List Chunk → Type 0
-  Sized chunks = length (joined (pieceOf stream container) chunks) ≡ sizeOf (stream .share) chunks
+  -- told of the first chunks of a walk, as many as one likes
+  abbrev Sized : ℕ → List Chunk → Type 0
+  Sized c chunks = (before after : List Chunk) → chunks ≡ before ++ after → length (joined (pieceOf stream container) before) ≡ sizeOf (stream .share) before
 
-  step-sized : (n c : ℕ) → ((d : ℕ) → Sized (walkFor container reading n d .chunks)) → (step : ChunkStep) → chunkAt container reading c ≡ step
-      → Sized (goOn step (walkFor container reading n) .chunks)
+  none-sized : (c : ℕ) → Sized c []
   unfolding joined sizeOf
-  step-sized n c ih Over e = refl
-  step-sized n c ih (Found chunk) e =
-      length-append (pieceOf stream container chunk) (joined (pieceOf stream container) (walkFor container reading n (chunk .next) .chunks))
-      ∙ ap₂ (λ (x y : ℕ). x + y) (piece-length container reading c chunk e stream) (ih (chunk .next))
-  step-sized n c ih (Refused refusal) e = refl
+  none-sized c [] after s = refl
+  none-sized c (chunk ∷ before) after s = let z : _≡_ {A = ℕ} 0 1 = cc in absurd (omega arith)
 
-  sized : (n c : ℕ) → Sized (walkFor container reading n c .chunks)
-  unfolding walkFor joined sizeOf
-  sized zero c = refl
-  sized (suc n) c = step-sized n c (sized n) (chunkAt container reading c) refl
+  one-more-sized : (c : ℕ) (chunk : Chunk) (chunks : List Chunk) → chunkAt container reading c ≡ Found chunk → Sized (chunk .next) chunks → Sized c (chunk ∷ chunks)
+  unfolding joined sizeOf
+  one-more-sized c chunk chunks e rest [] after s = refl
+  one-more-sized c chunk chunks e rest (first ∷ before) after s =
+      length-append (pieceOf stream container first) (joined (pieceOf stream container) before)
+      ∙ ap₂ (λ (x y : ℕ). x + y) (piece-length container reading c first (cc) stream) (rest before after (cc))
+
+  pub front-length : (c : ℕ) (before after : List Chunk) → walkFrom container reading c .chunks ≡ before ++ after
+      → length (joined (pieceOf stream container) before) ≡ sizeOf (stream .share) before
+  front-length = every-walk container reading Sized none-sized one-more-sized
 
   pub stream-length : (c : ℕ) → length (streamFrom stream container reading c) ≡ sizeOf (stream .share) (walkFrom container reading c .chunks)
-  unfolding walkFrom
-  stream-length c = sized _ c
+  stream-length c = front-length c (walkFrom container reading c .chunks) [] (sym (append-nil (walkFrom container reading c .chunks)))

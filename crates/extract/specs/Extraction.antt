@@ -24,7 +24,7 @@ use Rattle.extract.specs.Streams.{videoStream, audioStream}
 -- "Success returns the name .., whether there is audio, `mpeg_codec` and `audio_codec` (each may be absent), the kinds .., and both sizes."
 abbrev pub contentsOf : Header → ℕ → ℕ → Contents
 contentsOf header video audio =
-    record { name = header .name; audio = header .audio; «mpeg_codec» = header .video; «audio_codec» = header .sound; «video_kind» = videoKind (header .video); «audio_kind» = audioKind (header .sound); «video_size» = video; «audio_size» = audio }
+    record { name = header .name; audio = header .audio; «mpeg_codec» = header .«mpeg_codec»; «audio_codec» = header .«audio_codec»; «video_kind» = videoKind (header .«mpeg_codec»); «audio_kind» = audioKind (header .«audio_codec»); «video_size» = video; «audio_size» = audio }
 
 -- "0 for 2 and 11 to 14"
 abbrev pub refusedBy : Cause → Extracted
@@ -38,13 +38,17 @@ extractedIn container videoRoom audioRoom (survey.Film header count video audio)
     (extracted.Film (contentsOf header video audio)))
 extractedIn container videoRoom audioRoom (survey.Refused refusal) = extracted.Refused refusal
 
+-- the answer on a container, into two outputs. No key is asked
+abbrev pub extractedOf : List ℕ → Reading → List ℕ → List ℕ → Extracted
+extractedOf container reading video audio = extractedIn (length container) (length video) (length audio) (surveyOf (filmOf container reading))
+
 -- both streams of a film under a key
 abbrev pub videoOf : List ℕ → Key → Film → List ℕ
-videoOf container key (film header chunks) = videoStream container (unmaskingOf key (header .sound)) chunks
+videoOf container key (film header chunks) = videoStream container (unmaskingOf key (header .«audio_codec»)) chunks
 videoOf container key (refused refusal) = []
 
 abbrev pub audioOf : List ℕ → Key → Film → List ℕ
-audioOf container key (film header chunks) = audioStream container (unmaskingOf key (header .sound)) chunks
+audioOf container key (film header chunks) = audioStream container (unmaskingOf key (header .«audio_codec»)) chunks
 audioOf container key (refused refusal) = []
 
 -- "Every refusal leaves both outputs .. unchanged"; "Bytes .. past a size .. stay unchanged."
@@ -55,6 +59,6 @@ leftBy (extracted.Refused refusal) out stream = out
 -- the answer to an extraction and both outputs after it. Only the streams take the key
 abbrev pub Extraction : List ℕ → Reading → Key → List ℕ → List ℕ → Extracted → List ℕ → List ℕ → Type 0
 Extraction container reading key video audio r video′ audio′ =
-    (r ≡ extractedIn (length container) (length video) (length audio) (surveyOf (filmOf container reading)))
+    (r ≡ extractedOf container reading video audio)
     × (video′ ≡ leftBy r video (videoOf container key (filmOf container reading)))
     × (audio′ ≡ leftBy r audio (audioOf container key (filmOf container reading)))

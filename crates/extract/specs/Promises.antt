@@ -1,27 +1,28 @@
 -- What the mission promises of a whole film. Each is proved under the same name in proofs/Promises.antt.
 use Prim.Native.Nat.{ℕ, _+_, _%_, _≤_, _<_}
 use mathlib.Core.Path.{_≡_}
-use mathlib.Core.List.{List}
+use mathlib.Core.List.{List, _∷_, _++_}
 use mathlib.Core.Bool.{cond, _&&_}
-use lib.ListN.{length}
+use lib.ListN.{length, drop}
 use lib.Dec.{leb, eqb}
 use Rattle.reading.specs.declared.Reading.{Reading}
 use Rattle.refusal.specs.declared.Refusal.{Refusal}
-use Rattle.codec.specs.declared.Codec.{Codec}
 use Rattle.key.specs.CountingBits.{AgreeWhereItCounts}
 use Rattle.mask.specs.Positions.{difference, videoDiffers, audioDiffers}
 use Rattle.mask.specs.Promises.{apart}
 use Rattle.chunk.specs.declared.Chunk.{Chunk}
 use Rattle.chunk.specs.Chunks.{payloadOf}
+use Rattle.walk.specs.Walks.{videoSize, audioSize}
 use Rattle.clear.specs.declared.Key.{Key}
 use Rattle.clear.specs.declared.Key.the-variants.{Given}
-use Rattle.clear.specs.Unmasking.{isAdx, unmaskingOf}
+use Rattle.clear.specs.Unmasking.{isAdx}
 use Rattle.header.specs.declared.Header.{Header}
-use Rattle.film.specs.Films.{Film, filmOf, surveyOf}
+use Rattle.film.specs.Films.{film, filmOf, surveyOf}
 use Rattle.film.specs.declared.Surveyed.the-variants as survey
+use Rattle.extract.specs.declared.Contents.{Contents}
 use Rattle.extract.specs.declared.Extracted.{Extracted}
 use Rattle.extract.specs.declared.Extracted.the-variants as extracted
-use Rattle.extract.specs.Streams.{videoPart, audioPart, videoPiece, audioPiece}
+use Rattle.extract.specs.Streams.{videoPart, audioPart}
 use Rattle.extract.specs.Extraction.{videoOf, audioOf, Extraction}
 
 -- "Over a container, no key and no lack of one changes a refusal, name, codec, size": two results that meet the contract on one container, into outputs of the same lengths, are one
@@ -48,22 +49,46 @@ abbrev pub SizesFitTheContainer : Type 0
 SizesFitTheContainer =
     (container : List ℕ) (reading : Reading) (header : Header) (count video audio : ℕ) → surveyOf (filmOf container reading) ≡ survey.Film header count video audio → video + audio ≤ length container
 
--- keys that agree in bits 0 to 35 and 40 to 55 give the same streams of every film
+-- as many bytes, and from a place on the same
+abbrev pub SameFrom : ℕ → List ℕ → List ℕ → Type 0
+SameFrom place out out′ = (length out′ ≡ length out) × (drop place out′ ≡ drop place out)
+
+-- "Bytes .. past a size .. stay unchanged": after a result that is a film, both outputs are as long as before, with the same bytes from its sizes on
+abbrev pub BytesPastTheStreamsStay : Type 0
+BytesPastTheStreamsStay =
+    (container : List ℕ) (reading : Reading) (key : Key) (video audio videoAfter audioAfter : List ℕ) (contents : Contents)
+    → Extraction container reading key video audio (extracted.Film contents) videoAfter audioAfter
+    → SameFrom (contents .«video_size») video videoAfter × SameFrom (contents .«audio_size») audio audioAfter
+
+-- keys that agree in bits 0 to 35 and 40 to 55 give the same film: two results under them, on one container and into the same outputs, have one answer and
+-- leave the same bytes
 abbrev pub OneFilmWhereBitsAgree : Type 0
 OneFilmWhereBitsAgree =
-    (key key′ : ℕ) → AgreeWhereItCounts key key′ → (container : List ℕ) (f : Film)
-    → (videoOf container (Given key) f ≡ videoOf container (Given key′) f) × (audioOf container (Given key) f ≡ audioOf container (Given key′) f)
+    (container : List ℕ) (reading : Reading) (key key′ : ℕ) (video audio : List ℕ) (r r′ : Extracted) (videoAfter audioAfter videoAfter′ audioAfter′ : List ℕ)
+    → AgreeWhereItCounts key key′
+    → Extraction container reading (Given key) video audio r videoAfter audioAfter → Extraction container reading (Given key′) video audio r′ videoAfter′ audioAfter′
+    → (r ≡ r′) × (videoAfter ≡ videoAfter′) × (audioAfter ≡ audioAfter′)
 
--- the streams under two keys, payload by payload: a video payload of data type 0 and at least 0x240 bytes differs by D where document 01 says so, and nowhere else
+-- "the streams under two keys differ exactly where the payload law says, payload by payload": after two results on one container, into the same outputs, a
+-- video payload of data type 0 and at least 0x240 bytes differs by D where document 01 says so, and nothing else of the payload differs. It stands where the
+-- payloads before it end
 abbrev pub VideoDiffersPayloadByPayload : Type 0
 VideoDiffersPayloadByPayload =
-    (key key′ : ℕ) (codec : Codec) (container : List ℕ) (chunk : Chunk) (p : ℕ) → p < length (videoPart (chunk .kind) (payloadOf container chunk))
-    → apart (videoPiece container (unmaskingOf (Given key) codec) chunk) (videoPiece container (unmaskingOf (Given key′) codec) chunk) p
+    (container : List ℕ) (reading : Reading) (key key′ : ℕ) (video audio videoAfter audioAfter videoAfter′ audioAfter′ : List ℕ) (contents contents′ : Contents)
+    (header : Header) (before after : List Chunk) (chunk : Chunk) (p : ℕ)
+    → Extraction container reading (Given key) video audio (extracted.Film contents) videoAfter audioAfter
+    → Extraction container reading (Given key′) video audio (extracted.Film contents′) videoAfter′ audioAfter′
+    → filmOf container reading ≡ film header (before ++ chunk ∷ after) → p < length (videoPart (chunk .kind) (payloadOf container chunk))
+    → apart videoAfter videoAfter′ (videoSize before + p)
     ≡ cond ((eqb (chunk .tag) 0 && leb 0x240 (length (videoPart (chunk .kind) (payloadOf container chunk)))) && videoDiffers p) (difference key key′ (p % 0x20)) 0
 
--- and an audio payload of data type 0, of ADX sound
+-- and so an audio payload of data type 0, of ADX sound
 abbrev pub AudioDiffersPayloadByPayload : Type 0
 AudioDiffersPayloadByPayload =
-    (key key′ : ℕ) (codec : Codec) (container : List ℕ) (chunk : Chunk) (p : ℕ) → p < length (audioPart (chunk .kind) (payloadOf container chunk))
-    → apart (audioPiece container (unmaskingOf (Given key) codec) chunk) (audioPiece container (unmaskingOf (Given key′) codec) chunk) p
-    ≡ cond ((isAdx codec && eqb (chunk .tag) 0) && audioDiffers p) (difference key key′ (p % 0x20)) 0
+    (container : List ℕ) (reading : Reading) (key key′ : ℕ) (video audio videoAfter audioAfter videoAfter′ audioAfter′ : List ℕ) (contents contents′ : Contents)
+    (header : Header) (before after : List Chunk) (chunk : Chunk) (p : ℕ)
+    → Extraction container reading (Given key) video audio (extracted.Film contents) videoAfter audioAfter
+    → Extraction container reading (Given key′) video audio (extracted.Film contents′) videoAfter′ audioAfter′
+    → filmOf container reading ≡ film header (before ++ chunk ∷ after) → p < length (audioPart (chunk .kind) (payloadOf container chunk))
+    → apart audioAfter audioAfter′ (audioSize before + p)
+    ≡ cond ((isAdx (header .«audio_codec») && eqb (chunk .tag) 0) && audioDiffers p) (difference key key′ (p % 0x20)) 0

@@ -88,7 +88,8 @@ fn put_audio(payload: &[u8], tag: u8, unmasking: Unmasking, out: &mut [u8], at: 
     clear::clear_audio(&mut out[at..end], tag, unmasking);
 }
 
-// Writes both streams: each payload goes to its place in its stream.
+// Writes both streams: each payload goes to its place in its stream. Where the chunks are refused, they end; a film that
+// was surveyed before has no such chunk.
 fn write_streams(
     container: &[u8],
     start: usize,
@@ -159,8 +160,8 @@ fn contents_of(header: Header, video: usize, audio: usize) -> Contents
     ensures { λ r. ⌜ r ≡ contentsOf header video audio ⌝ }
 {
     let name = header.name;
-    let mpeg_codec = header.video;
-    let audio_codec = header.sound;
+    let mpeg_codec = header.mpeg_codec;
+    let audio_codec = header.audio_codec;
     Contents {
         name,
         audio: header.audio,
@@ -199,10 +200,10 @@ pub fn extract(
                     audio: heard,
                 });
             }
-            let codec = header.sound;
+            let codec = header.audio_codec;
             let applied = reading::applied_to(header.audio, reading);
             let unmasking = clear::unmasking_of(key, codec);
-            write_streams(container, header.chunks, applied, unmasking, video, audio);
+            write_streams(container, header.start, applied, unmasking, video, audio);
             Extracted::Film(contents_of(header, seen, heard))
         }
         Surveyed::Refused(refusal) => Extracted::Refused(refusal),

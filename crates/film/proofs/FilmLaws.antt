@@ -37,7 +37,7 @@ film-ended header h chunks (stopped refusal) count video audio e = let z : _≡_
 
 module _ (container : List ℕ) (reading : Reading) where
   abbrev walked : Header → Walk
-  walked header = walkFrom container (appliedTo (header .audio) reading) (header .chunks)
+  walked header = walkFrom container (appliedTo (header .audio) reading) (header .start)
 
   pub measured : (header : Header) (count video audio : ℕ) → measureOf (walked header) ≡ Sizes count video audio
       → survey.Film header count video audio ≡ surveyOf (filmFrom container reading header)

@@ -28,7 +28,7 @@ walkedAs header w = endedAs header (w .chunks) (w .ending)
 
 -- the chunks from where the header says that they begin; audio is taken "if present and chosen"
 unfoldable pub filmFrom : List ℕ → Reading → Header → Film
-filmFrom container reading header = walkedAs header (walkFrom container (appliedTo (header .audio) reading) (header .chunks))
+filmFrom container reading header = walkedAs header (walkFrom container (appliedTo (header .audio) reading) (header .start))
 
 abbrev pub afterHeader : (Header → Film) → HeaderAnswer → Film
 afterHeader k (answer.Read header) = k header

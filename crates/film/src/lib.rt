@@ -25,7 +25,7 @@ fn measure_chunks(container: &[u8], header: Header, reading: Reading) -> Surveye
     ensures { λ r. ⌜ r ≡ surveyOf (filmFrom (now (container .entry)) reading header) ⌝ }
 {
     let applied = reading::applied_to(header.audio, reading);
-    match walk::measure(container, header.chunks, applied) {
+    match walk::measure(container, header.start, applied) {
         Measured::Sizes {
             count,
             video,

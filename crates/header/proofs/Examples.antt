@@ -70,7 +70,7 @@ withAudio =
 
 -- nothing but whether there is audio, and where the chunks begin
 abbrev told : Bool → ℕ → HeaderAnswer
-told audio chunks = Read (record { name = Fallback; video = Absent; audio = audio; sound = Absent; chunks = chunks })
+told audio start = Read (record { name = Fallback; «mpeg_codec» = Absent; audio = audio; «audio_codec» = Absent; start = start })
 
 F-size : length F ≡ 448
 unfolding F

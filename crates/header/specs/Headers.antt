@@ -75,7 +75,7 @@ refused p why = Refused (record { cause = why; place = p })
 
 -- what the steps before the fourth gave, and where the chunks begin
 abbrev pub finish : Name → Codec → Bool → Codec → BlockAnswer → HeaderAnswer
-finish name video audio sound (Next chunks) = Read (record { name = name; video = video; audio = audio; sound = sound; chunks = chunks })
+finish name video audio sound (Next start) = Read (record { name = name; «mpeg_codec» = video; audio = audio; «audio_codec» = sound; start = start })
 finish name video audio sound (NoBlock refusal) = Refused refusal
 
 abbrev pub afterCodec : (Codec → ℕ → HeaderAnswer) → CodecBlock → HeaderAnswer

@@ -15,13 +15,13 @@ use refusal::Refusal;
 // What the header says of a film, and where its chunks begin.
 pub struct Header {
     pub name: Name,
-    // `mpeg_codec`.
-    pub video: Codec,
+    pub mpeg_codec: Codec,
     // Whether there is audio.
     pub audio: bool,
-    // `audio_codec`, absent without audio.
-    pub sound: Codec,
-    pub chunks: usize,
+    // Absent without audio.
+    pub audio_codec: Codec,
+    // Where the chunks begin.
+    pub start: usize,
 }
 
 // A header, or why a container is refused.
@@ -145,17 +145,17 @@ fn step_4(container: &[u8], audio: bool, place: usize) -> BlockAnswer
     }
 }
 
-// What the first steps gave, and where the others found that chunks begin.
+// What the first steps gave, the name and both codecs, and where the others found that chunks begin.
 fn finished(name: Name, video: Codec, audio: bool, sound: Codec, end: BlockAnswer) -> HeaderAnswer
     ensures { λ r. ⌜ r ≡ finish name video audio sound end ⌝ }
 {
     match end {
-        BlockAnswer::Next(chunks) => HeaderAnswer::Read(Header {
+        BlockAnswer::Next(start) => HeaderAnswer::Read(Header {
             name,
-            video,
+            mpeg_codec: video,
             audio,
-            sound,
-            chunks,
+            audio_codec: sound,
+            start,
         }),
         BlockAnswer::NoBlock(refusal) => HeaderAnswer::Refused(refusal),
     }

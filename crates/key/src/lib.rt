@@ -101,8 +101,8 @@ fn table_t(key: u64) -> [u8; 32]
 const LETTERS: [u8; 32] = *b"\0U\0R\0U\0C\0U\0R\0U\0C\0U\0R\0U\0C\0U\0R\0U\0C";
 
 // T, V and A of a key. The Rust's `get_mask`.
-// V and A stay in one loop, as they are in the Rust. With a loop for each, the compiler unrolls both and puts the
-// table into its callers as single bytes, and the video masks of the static library become 20 times slower.
+// V and A stay in one loop with a branch, as they are in the Rust. With a loop for each and no branch, the compiler unrolls
+// both and puts the table into its callers as single bytes, and the static library masks long video 30 times slower.
 pub fn key_table(key: u64) -> Keys
     ensures { λ r. ⌜ r ≡ keysOf key ⌝ }
 {

@@ -1,4 +1,4 @@
--- A list that is written from its front on: the invariant of every loop that writes, with a law for each way to go on. Assumes nothing.
+-- A list that is written from its front on: the invariant of a loop that writes bytes by their positions, with a law for each way to go on. Assumes nothing.
 use mathlib.Core.Path.{_≡_, refl, sym, ap, subst, _∙_}
 use mathlib.Core.Logic.{⊎-elim}
 use mathlib.Core.List.{List, _++_}

@@ -11,6 +11,9 @@ pub const SFV: usize = 0x40534656;
 // `@SFA`, a block or chunk of audio.
 pub const SFA: usize = 0x40534641;
 
+// The bytes of a block's or a chunk's letters.
+pub const LETTERS: usize = 4;
+
 // Where a block has its table or marker, and a chunk its payload or marker.
 pub const INSIDE: usize = 0x20;
 

@@ -1,8 +1,8 @@
 -- How long the lines are: a line is the sum of its pieces, and a container of at most 16,384 bytes has few enough of them.
 -- Chunks stand at least 8 bytes apart and a line has at most 20 bytes, so there are at most 5 bytes of text for 2 of the container. Assumes nothing.
-use mathlib.Core.Path.{_≡_, refl, ap}
+use mathlib.Core.Path.{_≡_, ap}
 use mathlib.Core.List.{List, [], _∷_, _++_}
-use Prim.Native.Nat.{ℕ, zero, suc, _+_, _-_, _*_, _^_, _≤_, _<_}
+use Prim.Native.Nat.{ℕ, suc, _+_, _-_, _*_, _^_, _≤_, _<_}
 use native.Mathlib.Omega.{arith}
 use lib.ListN.{length, length-append}
 use Rattle.refusal.specs.declared.Refusal.{Refusal}
@@ -11,12 +11,11 @@ use Rattle.reading.specs.declared.Reading.{Reading}
 use Rattle.chunk.specs.declared.Kind.{Kind}
 use Rattle.chunk.specs.declared.Kind.the-variants.{Video, Audio, Other, End}
 use Rattle.chunk.specs.declared.Chunk.{Chunk}
-use Rattle.chunk.specs.declared.ChunkStep.{ChunkStep}
 use Rattle.chunk.specs.declared.ChunkStep.the-variants.{Over, Found, Refused}
 use Rattle.chunk.specs.Chunks.{chunkAt}
 use Rattle.chunk.proofs.FoundLaws.{found}
-use Rattle.walk.specs.Walks.{Walk, goOn, walkFor, walkFrom}
-use Rattle.walk.proofs.WalkLaws.{walk-over, walk-found, walk-refused}
+use Rattle.walk.specs.Walks.{Walk, walkFrom}
+use Rattle.walk.proofs.WalkLaws.{walk-over, walk-found, walk-refused, every-walk}
 use Rattle.lines.specs.Decimals.{decimal}
 use Rattle.lines.specs.Lines.{space, newline, numberThen, kindWord, lineOf, linesOf, refusalLine}
 use Rattle.lines.proofs.DecimalLaws.{decimal-short, decimal-fits}
@@ -55,26 +54,22 @@ pub refusal-short : (refusal : Refusal) → length (refusalLine refusal) ≤ 53
 refusal-short refusal = omega (arith, refusal-length refusal, number-fits space (numberOf (refusal .cause)), number-fits newline (refusal .place))
 
 module _ (container : List ℕ) (reading : Reading) (limit : length container ≤ 16384) where
-  step-short : (n c : ℕ) → ((d : ℕ) → 2 * length (linesOf (walkFor container reading n d .chunks)) ≤ 5 * (length container - d))
-      → (step : ChunkStep) → chunkAt container reading c ≡ step
-      → 2 * length (linesOf (goOn step (walkFor container reading n) .chunks)) ≤ 5 * (length container - c)
+  abbrev Short : ℕ → List Chunk → Type 0
+  Short c chunks = 2 * length (linesOf chunks) ≤ 5 * (length container - c)
+
+  none-short : (c : ℕ) → Short c []
   unfolding linesOf
-  step-short n c ih Over e = omega arith
-  step-short n c ih (Found chunk) e =
+  none-short c = omega arith
+
+  one-more-short : (c : ℕ) (chunk : Chunk) (chunks : List Chunk) → chunkAt container reading c ≡ Found chunk → Short (chunk .next) chunks → Short c (chunk ∷ chunks)
+  unfolding linesOf
+  one-more-short c chunk chunks e more =
       let w = found container reading c chunk e in
       let line = line-short chunk (omega arith) (omega arith) (omega arith) in
-      let more = ih (chunk .next) in
       simp length-append (omega arith)
-  step-short n c ih (Refused refusal) e = omega arith
-
-  walk-short : (n c : ℕ) → 2 * length (linesOf (walkFor container reading n c .chunks)) ≤ 5 * (length container - c)
-  unfolding walkFor linesOf
-  walk-short zero c = omega arith
-  walk-short (suc n) c = step-short n c (walk-short n) (chunkAt container reading c) refl
 
   pub lines-short : (c : ℕ) → length (linesOf (walkFrom container reading c .chunks)) ≤ 40960
-  unfolding walkFrom
-  lines-short c = omega (arith, walk-short (length container - c) c)
+  lines-short c = omega (arith, every-walk container reading Short none-short one-more-short c)
 
 -- ---- the lines from a place on, by what stands there
 

@@ -30,8 +30,8 @@ module _ (container : List ℕ) (reading : Reading) (limit : length container �
   from-header : (header : Header) → length (filmText (filmFrom container reading header)) ≤ 65536
   unfolding filmFrom
   from-header header =
-      let walked = walkFrom container (appliedTo (header .audio) reading) (header .chunks) in
-      ended header (walked .chunks) (walked .ending) (omega (arith, lines-short container (appliedTo (header .audio) reading) limit (header .chunks)))
+      let walked = walkFrom container (appliedTo (header .audio) reading) (header .start) in
+      ended header (walked .chunks) (walked .ending) (omega (arith, lines-short container (appliedTo (header .audio) reading) limit (header .start)))
 
   after : (a : HeaderAnswer) → length (filmText (afterHeader (filmFrom container reading) a)) ≤ 65536
   after (answer.Read header) = from-header header

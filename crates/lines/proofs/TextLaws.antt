@@ -30,7 +30,7 @@ module _ (container : List ℕ) where
   not-too-long h = rw (le-ltb 16384 (length container) h)
 
   pub accepted : length container ≤ 16384 → (header : Header) (count video audio : ℕ) → surveyOf (filmOf container chosen) ≡ survey.Film header count video audio
-      → linesOf (walkFrom container (appliedTo (header .audio) chosen) (header .chunks) .chunks) ≡ textOf container
+      → linesOf (walkFrom container (appliedTo (header .audio) chosen) (header .start) .chunks) ≡ textOf container
   accepted h header count video audio e = sym (not-too-long h ∙ ap filmText (surveyed-film container chosen header count video audio e))
 
   pub not-accepted : length container ≤ 16384 → (refusal : Refusal) → surveyOf (filmOf container chosen) ≡ survey.Refused refusal → refusalLine refusal ≡ textOf container

@@ -17,7 +17,7 @@ use refusal::Cause;
 use refusal::Refusal;
 
 // A longer container is refused.
-const LONGEST: usize = 16384;
+pub const LONGEST: usize = 16384;
 
 // Puts a byte into an output, if it has the place.
 fn put_byte(out: &mut [u8], place: usize, byte: u8)
@@ -78,7 +78,8 @@ fn put_line(out: &mut [u8], place: usize, chunk: Chunk) -> usize
     put_number(out, at, chunk.len as u64, b'\n')
 }
 
-// Puts the lines of all chunks from a place of the container on, at the start of the output.
+// Puts the lines of all chunks from a place of the container on, at the start of the output. Where the chunks are refused,
+// they end; a film that was surveyed before has no such chunk.
 fn put_chunks(out: &mut [u8], container: &[u8], place: usize, reading: Reading) -> usize
     requires { ⌜ length (now container) ≤ 16384 ⌝ }
     ensures { λ r. ⌜ Put (linesOf (walkFrom (now (container .entry)) reading place .chunks)) (now (out .entry)) 0 (now (out .exit)) r ⌝ }
@@ -133,7 +134,7 @@ pub fn lines(container: &[u8], out: &mut [u8]) -> usize
             audio: _,
         } => {
             let applied = reading::applied_to(header.audio, reading);
-            put_chunks(out, container, header.chunks, applied)
+            put_chunks(out, container, header.start, applied)
         }
         Surveyed::Refused(refusal) => put_refusal(out, refusal),
     }

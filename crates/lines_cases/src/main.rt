@@ -1,5 +1,5 @@
 // Prints the lines of stored containers, each below its title: document 01's example F, whole, cut and
-// padded, chunks of every kind, and refusals. The gate compares them with the file stdout.
+// padded, chunks of every kind, refusals, and F's payloads. The gate compares them with the file stdout.
 use libc::STDOUT_FILENO;
 
 // Stores bytes at the start of a part, as far as it goes.
@@ -189,6 +189,28 @@ fn wrong_chunks() {
     altered(b"a payload that leads past the end\n", 324, b"\0\0\x01\0");
 }
 
+// Prints how many bytes the payload reader hands back at a place.
+fn payload_at(film: &[u8], place: usize) {
+    let payload = chunk::read_payload(film, place, reading::reading_by(1));
+    text::empty()
+        .decimal(place as u64)
+        .word(b" ")
+        .decimal(payload.len() as u64)
+        .end();
+}
+
+// The payloads of F: that of its video chunk, and none at its end chunk, past it, and as far past it as can be.
+fn payloads() {
+    let mut film = [0u8; 448];
+    store_header(&mut film);
+    store_chunks(&mut film);
+    io::write_all(STDOUT_FILENO, b"payloads of F\n");
+    payload_at(&film, 320);
+    payload_at(&film, 384);
+    payload_at(&film, 448);
+    payload_at(&film, 0xFFFF_FFFF_FFFF_FFFF);
+}
+
 fn main() {
     lengths();
     kinds();
@@ -197,4 +219,5 @@ fn main() {
     wrong_blocks();
     wrong_tables();
     wrong_chunks();
+    payloads();
 }

@@ -3,7 +3,6 @@
 use Prim.Native.Nat.{ℕ, zero, suc, _+_, _-_, _<_, _≤_, _^_}
 use mathlib.Core.Path.{_≡_, refl, sym, ap, _∙_}
 use mathlib.Core.List.{List, [], _∷_, map}
-use mathlib.Core.Bool.{Bool, true, false, _&&_}
 use mathlib.Core.Logic.{⊎-elim}
 use native.Mathlib.Omega.{arith}
 use native.Mathlib.Numerals.{add-one}
@@ -11,11 +10,8 @@ use lib.ListN.{length, set, length-set}
 use lib.Seq.{sets}
 use borrow.Author.Tests.{lt-ltb, le-ltb}
 use Rattle.laws.proofs.Side.{side}
-use Rattle.refusal.specs.declared.Refusal.{Refusal}
-use Rattle.reading.specs.declared.AudioChoice.{AudioChoice}
-use Rattle.reading.specs.declared.AudioChoice.the-variants.{NotChosen, Chosen}
 use Rattle.reading.specs.declared.Reading.{Reading}
-use Rattle.reading.specs.Choices.{isChosen, appliedTo}
+use Rattle.reading.specs.Choices.{appliedTo}
 use Rattle.chunk.specs.declared.Chunk.{Chunk}
 use Rattle.chunk.specs.declared.ChunkStep.{ChunkStep}
 use Rattle.chunk.specs.declared.ChunkStep.the-variants.{Over, Found, Refused}
@@ -25,23 +21,23 @@ use Rattle.walk.proofs.WalkLaws.{walk-over, walk-found, walk-refused}
 use Rattle.header.specs.declared.Header.{Header}
 use Rattle.film.specs.declared.Surveyed.{Surveyed}
 use Rattle.film.specs.declared.Surveyed.the-variants as survey
-use Rattle.film.specs.Films.{Film, film, refused, filmOf, surveyOf}
+use Rattle.film.specs.Films.{film, filmOf, surveyOf}
 use Rattle.film.proofs.FilmLaws.{surveyed-film}
 use Rattle.list.specs.declared.ChunkRecord.{ChunkRecord}
 use Rattle.list.specs.declared.Plan.{Plan}
 use Rattle.list.specs.declared.RecordStep.{RecordStep}
-use Rattle.list.specs.Listing.{recordOf, listedIn, filledBy, listCount}
-use Rattle.list.specs.Filling.{hearing, startIn, heardIn, planOf, stepAt}
+use Rattle.list.specs.Listing.{recordOf, listedIn, listedOf, recordsOf, filledBy}
+use Rattle.list.specs.Filling.{listCount, startIn, readingIn, planOf, stepAt}
 
 -- so many records are stored from i on, of the chunks from a place on
-unfoldable pub fillFor : List ℕ → Bool → ℕ → ℕ → ℕ → List ChunkRecord → List ChunkRecord
-fillFor container heard zero place i list = list
-fillFor container heard (suc left) place i list =
-    fillFor container heard left (stepAt container heard place .next) (suc i) (set list i (stepAt container heard place .made))
+unfoldable pub fillFor : List ℕ → Reading → ℕ → ℕ → ℕ → List ChunkRecord → List ChunkRecord
+fillFor container reading zero place i list = list
+fillFor container reading (suc left) place i list =
+    fillFor container reading left (stepAt container reading place .next) (suc i) (set list i (stepAt container reading place .made))
 
 -- what the whole loop stores
 abbrev pub fillBy : List ℕ → Plan → List ChunkRecord → List ChunkRecord
-fillBy container plan list = fillFor container (plan .heard) (plan .count) (plan .start) 0 list
+fillBy container plan list = fillFor container (plan .reading) (plan .count) (plan .start) 0 list
 
 -- where the loop stands: so many records are filled, and the next is of the chunk at a place
 pub record Stored (container : List ℕ) (plan : Plan) (list : List ChunkRecord) : Type 0 where
@@ -51,7 +47,7 @@ pub record Stored (container : List ℕ) (plan : Plan) (list : List ChunkRecord)
   pub upto : filled ≤ plan .count
   pub fits : place < 2 ^ 64
   pub long : length now ≡ length list
-  pub same : fillFor container (plan .heard) (plan .count - filled) place filled now ≡ fillBy container plan list
+  pub same : fillFor container (plan .reading) (plan .count - filled) place filled now ≡ fillBy container plan list
 
 module _ (container : List ℕ) (plan : Plan) (list : List ChunkRecord) where
   abbrev pub begins : plan .start < 2 ^ 64 → Stored container plan list
@@ -62,16 +58,16 @@ module _ (container : List ℕ) (plan : Plan) (list : List ChunkRecord) where
     upto = omega arith;
     fits = h;
     long = refl;
-    same = ap (λ (left : ℕ). fillFor container (plan .heard) left (plan .start) 0 list) (omega arith);
+    same = ap (λ (left : ℕ). fillFor container (plan .reading) left (plan .start) 0 list) (omega arith);
   }
 
   pub one-more : (place i : ℕ) (now : List ChunkRecord) → i < plan .count
-      → fillFor container (plan .heard) (plan .count - i) place i now
-      ≡ fillFor container (plan .heard) (plan .count - (i + 1)) (stepAt container (plan .heard) place .next) (i + 1) (set now i (stepAt container (plan .heard) place .made))
+      → fillFor container (plan .reading) (plan .count - i) place i now
+      ≡ fillFor container (plan .reading) (plan .count - (i + 1)) (stepAt container (plan .reading) place .next) (i + 1) (set now i (stepAt container (plan .reading) place .made))
   unfolding fillFor
   one-more place i now h = let e : plan .count - i ≡ suc (plan .count - (i + 1)) = omega arith in rw (e, add-one i)
 
-  abbrev pub turned : (t : Stored container plan list) → t .filled < plan .count → (r : RecordStep) → r ≡ stepAt container (plan .heard) (t .place) → r .next < 2 ^ 64 → Stored container plan list
+  abbrev pub turned : (t : Stored container plan list) → t .filled < plan .count → (r : RecordStep) → r ≡ stepAt container (plan .reading) (t .place) → r .next < 2 ^ 64 → Stored container plan list
   turned t h r e f = record {
     place = r .next;
     filled = t .filled + 1;
@@ -95,41 +91,30 @@ none (chunk ∷ chunks) e = absurd (omega arith)
 abbrev size : Walk → ℕ
 size walk = length (walk .chunks)
 
-module _ (container : List ℕ) (heard : Bool) where
+module _ (container : List ℕ) (reading : Reading) where
   abbrev chunks : ℕ → List Chunk
-  chunks place = walkFrom container (hearing heard) place .chunks
+  chunks place = walkFrom container reading place .chunks
 
   abbrev Fills : ℕ → Type 0
-  Fills left = (place i : ℕ) (list : List ChunkRecord) → length (chunks place) ≡ left → fillFor container heard left place i list ≡ sets list i (map recordOf (chunks place))
+  Fills left = (place i : ℕ) (list : List ChunkRecord) → length (chunks place) ≡ left → fillFor container reading left place i list ≡ sets list i (map recordOf (chunks place))
 
-  fill-step : (left : ℕ) → Fills left → (place i : ℕ) (list : List ChunkRecord) (step : ChunkStep) → chunkAt container (hearing heard) place ≡ step → length (chunks place) ≡ suc left
-      → fillFor container heard (suc left) place i list ≡ sets list i (map recordOf (chunks place))
+  fill-step : (left : ℕ) → Fills left → (place i : ℕ) (list : List ChunkRecord) (step : ChunkStep) → chunkAt container reading place ≡ step → length (chunks place) ≡ suc left
+      → fillFor container reading (suc left) place i list ≡ sets list i (map recordOf (chunks place))
   unfolding fillFor stepAt
-  fill-step left ih place i list Over e h = absurd (omega (arith, h, ap size (walk-over container (hearing heard) place e)))
+  fill-step left ih place i list Over e h = absurd (omega (arith, h, ap size (walk-over container reading place e)))
   fill-step left ih place i list (Found chunk) e h =
-      let f = walk-found container (hearing heard) place chunk e in
-      let g : fillFor container heard (suc left) place i list ≡ sets list i (map recordOf (chunk ∷ chunks (chunk .next))) =
+      let f = walk-found container reading place chunk e in
+      let g : fillFor container reading (suc left) place i list ≡ sets list i (map recordOf (chunk ∷ chunks (chunk .next))) =
       rw e (ih (chunk .next) (suc i) (set list i (recordOf chunk)) (omega (arith, h, ap size f))) in
       g ∙ sym (ap (λ (walk : Walk). sets list i (map recordOf (walk .chunks))) f)
-  fill-step left ih place i list (Refused refusal) e h = absurd (omega (arith, h, ap size (walk-refused container (hearing heard) place refusal e)))
+  fill-step left ih place i list (Refused refusal) e h = absurd (omega (arith, h, ap size (walk-refused container reading place refusal e)))
 
   fills : (left : ℕ) → Fills left
   unfolding fillFor
   fills zero place i list h = rw (none (chunks place) h)
-  fills (suc left) place i list h = fill-step left (fills left) place i list (chunkAt container (hearing heard) place) refl h
+  fills (suc left) place i list h = fill-step left (fills left) place i list (chunkAt container reading place) refl h
 
 -- ---- by the plan
-
--- "if present and chosen", as one choice
-as-heard : (present : Bool) (choice : AudioChoice) → appliedTo present (record { audio = choice }) ≡ hearing (present && isChosen choice)
-as-heard true NotChosen = refl
-as-heard true Chosen = refl
-as-heard false NotChosen = refl
-as-heard false Chosen = refl
-
-not-filled : (f : Film) (refusal : Refusal) (list : List ChunkRecord) → surveyOf f ≡ survey.Refused refusal → list ≡ filledBy f list
-not-filled (film header chunks) refusal list e = let z : _≡_ {A = ℕ} 0 1 = cc in absurd (omega arith)
-not-filled (refused other) refusal list e = refl
 
 -- a plan counts no more records than there is room for
 few : (room : ℕ) (s : Surveyed) → listCount (listedIn room s) ≤ room
@@ -138,27 +123,26 @@ few room (survey.Refused refusal) = omega arith
 
 module _ (container : List ℕ) (reading : Reading) (list : List ChunkRecord) where
   abbrev Leaves : Surveyed → Type 0
-  Leaves s = fillFor container (heardIn reading s) (listCount (listedIn (length list) s)) (startIn s) 0 list ≡ filledBy (filmOf container reading) list
+  Leaves s = fillFor container (readingIn reading s) (listCount (listedIn (length list) s)) (startIn s) 0 list ≡ filledBy (listedIn (length list) s) list (recordsOf (filmOf container reading))
 
   -- of a film of so many chunks
-  leaves-film : (header : Header) (chunks : List Chunk) (video audio : ℕ) → chunks ≡ walkFrom container (appliedTo (header .audio) reading) (header .chunks) .chunks
+  leaves-film : (header : Header) (chunks : List Chunk) (video audio : ℕ) → chunks ≡ walkFrom container (appliedTo (header .audio) reading) (header .start) .chunks
       → filmOf container reading ≡ film header chunks → Leaves (survey.Film header (length chunks) video audio)
   unfolding fillFor
   leaves-film header chunks video audio w e =
-      let v = w ∙ ap (λ (k : Reading). walkFrom container k (header .chunks) .chunks) (as-heard (header .audio) (reading .audio)) in
       rw e (
       ⊎-elim
       (λ h. rw (lt-ltb (length list) (length chunks) h))
-      (λ h. rw (le-ltb (length list) (length chunks) h) (rw v (fills container (heardIn reading (survey.Film header (length chunks) video audio)) _ (header .chunks) 0 list refl)))
+      (λ h. rw (le-ltb (length list) (length chunks) h) (rw w (fills container (readingIn reading (survey.Film header (length chunks) video audio)) _ (header .start) 0 list refl)))
       (side (length list) (length chunks)))
 
   leaves : (s : Surveyed) → surveyOf (filmOf container reading) ≡ s → Leaves s
   unfolding fillFor
   leaves (survey.Film header count video audio) e =
       let f = surveyed-film container reading header count video audio e in
-      let n : length (walkFrom container (appliedTo (header .audio) reading) (header .chunks) .chunks) ≡ count = cc in
+      let n : length (walkFrom container (appliedTo (header .audio) reading) (header .start) .chunks) ≡ count = cc in
       rw (← n) (leaves-film header _ video audio refl f)
-  leaves (survey.Refused refusal) e = not-filled (filmOf container reading) refusal list e
+  leaves (survey.Refused refusal) e = refl
 
   -- the plan of a listing into this list
   abbrev pub planned : Plan
@@ -167,5 +151,5 @@ module _ (container : List ℕ) (reading : Reading) (list : List ChunkRecord) wh
   pub plan-few : planned .count ≤ length list
   plan-few = few (length list) (surveyOf (filmOf container reading))
 
-  pub plan-leaves : fillBy container planned list ≡ filledBy (filmOf container reading) list
+  pub plan-leaves : fillBy container planned list ≡ filledBy (listedOf container reading (length list)) list (recordsOf (filmOf container reading))
   plan-leaves = leaves (surveyOf (filmOf container reading)) refl

@@ -2,19 +2,11 @@
 use mathlib.Core.Path.{_≡_}
 use Rattle.laws.proofs.OneAnswer.{no-second-answer}
 use Rattle.list.proofs.list_answer.Reads as list-answer
-use Rattle.list.proofs.list_number.Reads as list-number
-use Rattle.list.proofs.list_count.Reads as list-count
 use Rattle.list.proofs.list_plan.Reads as list-plan
 use Rattle.list.proofs.record_at.Reads as record-at
 
 pub list-answer-once : (κs : _) (args : _) (r r′ : _) (exit exit′ : _) → list-answer.Learnt κs args r exit → list-answer.Learnt κs args r′ exit′ → r ≡ r′
 list-answer-once κs args r r′ exit exit′ = no-second-answer
-
-pub list-number-once : (κs : _) (args : _) (r r′ : _) (exit exit′ : _) → list-number.Learnt κs args r exit → list-number.Learnt κs args r′ exit′ → r ≡ r′
-list-number-once κs args r r′ exit exit′ = no-second-answer
-
-pub list-count-once : (κs : _) (args : _) (r r′ : _) (exit exit′ : _) → list-count.Learnt κs args r exit → list-count.Learnt κs args r′ exit′ → r ≡ r′
-list-count-once κs args r r′ exit exit′ = no-second-answer
 
 pub list-plan-once : (κs : _) (args : _) (r r′ : _) (exit exit′ : _) → list-plan.Learnt κs args r exit → list-plan.Learnt κs args r′ exit′ → r ≡ r′
 list-plan-once κs args r r′ exit exit′ = no-second-answer

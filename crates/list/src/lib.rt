@@ -3,12 +3,11 @@
 ghost use mathlib.Core.Path.{_≡_};
 ghost use Rattle.film.specs.Films.{surveyOf, filmOf};
 ghost use Rattle.reading.specs.Choices.{readingBy};
-ghost use Rattle.list.specs.Listing.{listedIn, listNumber, listCount, recordOf};
-ghost use Rattle.list.specs.Filling.{hearing, startIn, heardIn, planOf, noRecord, stepAt};
+ghost use Rattle.list.specs.Listing.{listedIn, listedOf, listNumber, recordOf};
+ghost use Rattle.list.specs.Filling.{listCount, startIn, readingIn, planOf, noRecord, stepAt};
 use chunk::Chunk;
 use chunk::ChunkStep;
 use film::Surveyed;
-use reading::AudioChoice;
 use reading::Reading;
 use refusal::Cause;
 use refusal::Refusal;
@@ -29,12 +28,12 @@ pub enum Listed {
 }
 
 // What a filler of a lent list goes by: the number that it gives, how many records it makes, from which place on,
-// and whether audio is taken.
+// and how the chunks are read.
 pub struct Plan {
     pub number: u8,
     pub count: usize,
     pub start: usize,
-    pub heard: bool,
+    pub reading: Reading,
 }
 
 // A record, and where the next chunk starts.
@@ -68,13 +67,13 @@ fn listed_in(room: usize, survey: Surveyed) -> Listed
 
 // What a listing into a list of so many records answers.
 pub fn list_answer(container: &[u8], reading: Reading, room: usize) -> Listed
-    ensures { λ r. ⌜ r ≡ listedIn room (surveyOf (filmOf (now (container .entry)) reading)) ⌝ }
+    ensures { λ r. ⌜ r ≡ listedOf (now (container .entry)) reading room ⌝ }
 {
     listed_in(room, film::survey(container, reading))
 }
 
 // The number of an answer: the refusal's, 0 where there is none.
-pub fn list_number(answer: Listed) -> u8
+fn list_number(answer: Listed) -> u8
     ensures { λ r. ⌜ r ≡ listNumber answer ⌝ }
 {
     match answer {
@@ -87,7 +86,7 @@ pub fn list_number(answer: Listed) -> u8
 }
 
 // How many records there are to make: none where the listing is refused.
-pub fn list_count(answer: Listed) -> usize
+fn list_count(answer: Listed) -> usize
     ensures { λ r. ⌜ r ≡ listCount answer ⌝ }
 {
     match answer {
@@ -106,14 +105,14 @@ fn start_in(survey: Surveyed) -> usize
             count: _,
             video: _,
             audio: _,
-        } => header.chunks,
+        } => header.start,
         Surveyed::Refused(_) => 0,
     }
 }
 
-// Whether a film's audio is taken.
-fn heard_in(reading: Reading, survey: Surveyed) -> bool
-    ensures { λ r. ⌜ r ≡ heardIn reading survey ⌝ }
+// The choices as they stand for a film.
+fn reading_in(reading: Reading, survey: Surveyed) -> Reading
+    ensures { λ r. ⌜ r ≡ readingIn reading survey ⌝ }
 {
     match survey {
         Surveyed::Film {
@@ -121,14 +120,8 @@ fn heard_in(reading: Reading, survey: Surveyed) -> bool
             count: _,
             video: _,
             audio: _,
-        } => {
-            let choice = reading.audio;
-            if header.audio {
-                return reading::is_chosen(choice);
-            }
-            false
-        }
-        Surveyed::Refused(_) => false,
+        } => reading::applied_to(header.audio, reading),
+        Surveyed::Refused(_) => reading,
     }
 }
 
@@ -143,21 +136,7 @@ pub fn list_plan(container: &[u8], audio: u8, room: usize) -> Plan
         number: list_number(answer),
         count: list_count(answer),
         start: start_in(survey),
-        heard: heard_in(reading, survey),
-    }
-}
-
-// The reading that takes audio or not.
-fn hearing_of(heard: bool) -> Reading
-    ensures { λ r. ⌜ r ≡ hearing heard ⌝ }
-{
-    if heard {
-        return Reading {
-            audio: AudioChoice::Chosen,
-        };
-    }
-    Reading {
-        audio: AudioChoice::NotChosen,
+        reading: reading_in(reading, survey),
     }
 }
 
@@ -190,10 +169,10 @@ fn no_record() -> RecordStep
 }
 
 // The record of the chunk at a place, and where the next one starts.
-pub fn record_at(container: &[u8], place: usize, heard: bool) -> RecordStep
-    ensures { λ r. ⌜ r ≡ stepAt (now (container .entry)) heard place ⌝ }
+pub fn record_at(container: &[u8], place: usize, reading: Reading) -> RecordStep
+    ensures { λ r. ⌜ r ≡ stepAt (now (container .entry)) reading place ⌝ }
 {
-    match chunk::chunk_at(container, place, hearing_of(heard)) {
+    match chunk::chunk_at(container, place, reading) {
         ChunkStep::Over => no_record(),
         ChunkStep::Found(chunk) => RecordStep {
             made: record_of(chunk),

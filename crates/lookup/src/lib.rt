@@ -5,7 +5,6 @@ ghost use Prim.Native.Nat.{_+_, _-_, _*_, _≤_, _<_, _^_};
 ghost use lib.ListN.{length};
 ghost use Rattle.word.specs.Numbers.{be32};
 ghost use Rattle.cell.specs.Cells.{cellAt};
-ghost use Rattle.table.specs.Walks.{rowsAt};
 ghost use Rattle.lookup.specs.Names.{spells};
 ghost use Rattle.lookup.specs.Search.{inRecord, inRow, markIf, searchFrom};
 ghost use Rattle.lookup.specs.Lookups.{constantOr, columnCell, markedCell, bodyCell, tableCell, endOfPart, endOfAnswer, shifted, placed, cellOf, lastRow, lastCellOf};
@@ -16,15 +15,15 @@ use refusal::Refusal;
 use table::TableAnswer;
 
 // Where the last column of a name has its record, and its cell in a row.
-pub enum Mark {
+enum Mark {
     Nowhere,
     Marked { entry: usize, offset: usize },
 }
 
 // What a search over all columns gives: the last column of the name, and the bytes of one row.
-pub struct Search {
-    pub mark: Mark,
-    pub width: usize,
+struct Search {
+    mark: Mark,
+    width: usize,
 }
 
 // A cell of a table, or why the table is refused. Parts are parts of the slice that holds the table.
@@ -184,16 +183,6 @@ fn marked_cell(body: &[u8], mark: Mark, at: usize, strings: u32, blobs: u32) -> 
     }
 }
 
-// Where the rows start in the body. Before it there is nothing to read, as there is nothing past its end.
-fn rows_at(body: &[u8], from: usize) -> usize
-    ensures { λ r. ⌜ r ≡ rowsAt (now (body .entry)) from ⌝ }
-{
-    if from < cell::BODY {
-        return body.len();
-    }
-    from - cell::BODY
-}
-
 // The cell of the last column of the name, in a row of a body.
 fn body_cell(
     body: &[u8],
@@ -210,7 +199,7 @@ fn body_cell(
     let found = last_named(body, columns, strings, name);
     let mark = found.mark;
     let width = found.width;
-    let at = rows_at(body, from) + row * width;
+    let at = table::rows_at(body, from) + row * width;
     marked_cell(body, mark, at, strings, blobs)
 }
 

@@ -1,35 +1,29 @@
 // The lines that are written: what our functions answer on a container, extracted or listed.
-use chunk::Chunk;
-use chunk::ChunkStep;
-use chunk::Kind;
 use clear::Key;
 use codec::AudioKind;
 use codec::Codec;
 use codec::VideoKind;
 use extract::Contents;
 use extract::Extracted;
-use film::Surveyed;
+use list::ChunkRecord;
+use list::Listed;
+use list::Plan;
 use part::Name;
 use reading::Reading;
 use refusal::Cause;
 use refusal::Refusal;
 use text::Line;
 
-// A byte as a number.
-fn wide(byte: u8) -> u64 {
-    byte as u64
-}
-
 // Writes a refusal's number and place, and the type where it is one that is unknown.
 fn write_refusal(refusal: Refusal) {
     let cause = refusal.cause;
     let line = text::empty()
         .word(b"refused ")
-        .decimal(wide(refusal::number_of(cause)))
+        .decimal(refusal::number_of(cause) as u64)
         .word(b" at ")
         .decimal(refusal.place as u64);
     match cause {
-        Cause::UnknownType(kind) => line.word(b" type ").decimal(wide(kind)).end(),
+        Cause::UnknownType(kind) => line.word(b" type ").decimal(kind as u64).end(),
         _ => line.end(),
     }
 }
@@ -99,58 +93,44 @@ pub(crate) fn write_film<'a>(container: &'a [u8], reading: Reading, key: Key, fa
     }
 }
 
-// A line with the word of a kind after it.
-fn with_kind(line: Line, kind: Kind) -> Line {
+// A line with the word of a kind's number after it.
+fn with_kind(line: Line, kind: u8) -> Line {
     match kind {
-        Kind::Video => line.word(b" video "),
-        Kind::Audio => line.word(b" audio "),
-        Kind::Other => line.word(b" other "),
-        Kind::End => line.word(b" end "),
+        0 => line.word(b" video "),
+        1 => line.word(b" audio "),
+        2 => line.word(b" other "),
+        _ => line.word(b" end "),
     }
 }
 
-// Writes a chunk.
-fn write_chunk(chunk: Chunk) {
-    let kind = chunk.kind;
-    with_kind(text::empty().decimal(chunk.start as u64), kind)
-        .decimal(wide(chunk.tag))
+// Writes a record.
+fn write_record(made: ChunkRecord) {
+    with_kind(text::empty().decimal(made.start as u64), made.kind)
+        .decimal(made.tag as u64)
         .word(b" ")
-        .decimal(chunk.len as u64)
+        .decimal(made.len as u64)
         .end();
 }
 
-// Writes the chunks from a place on.
-fn write_chunks(container: &[u8], place: usize, reading: Reading) {
-    let mut at = place;
-    loop {
-        match chunk::chunk_at(container, at, reading) {
-            ChunkStep::Over => {
-                return;
-            }
-            ChunkStep::Found(chunk) => {
-                write_chunk(chunk);
-                at = chunk.next;
-            }
-            ChunkStep::Refused(refusal) => {
-                write_refusal(refusal);
-                return;
-            }
-        }
+// Writes the records that a filler makes by a plan.
+fn write_records(container: &[u8], plan: Plan) {
+    let count = plan.count;
+    let reading = plan.reading;
+    let mut place = plan.start;
+    let mut made = 0;
+    while made < count {
+        let step = list::record_at(container, place, reading);
+        write_record(step.made);
+        place = step.next;
+        made += 1;
     }
 }
 
-// Writes the answer on a listing.
-pub(crate) fn write_list(container: &[u8], reading: Reading) {
-    match film::survey(container, reading) {
-        Surveyed::Film {
-            header,
-            count: _,
-            video: _,
-            audio: _,
-        } => {
-            let applied = reading::applied_to(header.audio, reading);
-            write_chunks(container, header.chunks, applied);
-        }
-        Surveyed::Refused(refusal) => write_refusal(refusal),
+// Writes the answer on a listing. A list of as many records as the container has bytes is never too short.
+pub(crate) fn write_list(container: &[u8], audio: u8) {
+    let room = container.len();
+    match list::list_answer(container, reading::reading_by(audio), room) {
+        Listed::Count(_) => write_records(container, list::list_plan(container, audio, room)),
+        Listed::Refused(refusal) => write_refusal(refusal),
     }
 }

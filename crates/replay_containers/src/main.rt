@@ -1,5 +1,5 @@
 // Replays recorded answers of the original Rust on whole containers: reads containers and questions from standard
-// input and writes what `extract::extract`, `film::survey` and `chunk::chunk_at` answer. README.md beside this crate
+// input and writes what `extract::extract`, and the functions of `list` answer. README.md beside this crate
 // has the format.
 ghost use Prim.Native.Nat.{_≤_, _<_};
 ghost use lib.ListN.{length};
@@ -8,6 +8,8 @@ mod answers;
 mod questions;
 
 use fields::Number;
+use libc::STDIN_FILENO;
+use libc::STDOUT_FILENO;
 
 // Puts the bytes that digits stand for at a place of the container, and answers whether they end inside it.
 fn put_at(container: &mut [u8], place: usize, digits: &[u8]) -> bool {
@@ -133,19 +135,19 @@ fn replay(list: &[u8], space: &mut [u8]) -> bool {
 // Whether standard input holds more than was read.
 fn more_comes() -> bool {
     let mut byte = [0u8; 1];
-    0 < io::read_full(0, &mut byte)
+    0 < io::read_full(STDIN_FILENO, &mut byte)
 }
 
 fn main() {
     let mut list = io::large_buffer();
-    let n = io::read_full(0, &mut list);
+    let n = io::read_full(STDIN_FILENO, &mut list);
     if more_comes() {
-        io::write_all(1, b"stdin has more than 65536 bytes\n");
+        io::write_all(STDOUT_FILENO, b"stdin has more than 65536 bytes\n");
         return;
     }
     let mut space = io::buffer();
     let is_list = replay(&list[..n], &mut space);
     if !is_list {
-        io::write_all(1, b"stdin is not a list of containers\n");
+        io::write_all(STDOUT_FILENO, b"stdin is not a list of containers\n");
     }
 }

@@ -24,12 +24,12 @@ fn is_choice(text: &[u8]) -> bool {
     is_only(text, b'1')
 }
 
-// How such a text says to read.
-fn reading_of(text: &[u8]) -> Reading {
+// The number of such a choice.
+fn choice_of(text: &[u8]) -> u8 {
     if is_only(text, b'0') {
-        return reading::reading_by(0);
+        return 0;
     }
-    reading::reading_by(1)
+    1
 }
 
 // Writes the list of the chunks by the choice of audio, and answers whether it is one.
@@ -37,7 +37,7 @@ pub(crate) fn replay_list(text: &[u8], container: &[u8]) -> bool {
     if !is_choice(text) {
         return false;
     }
-    crate::answers::write_list(container, reading_of(text));
+    crate::answers::write_list(container, choice_of(text));
     true
 }
 
@@ -93,6 +93,6 @@ pub(crate) fn replay_film(text: &[u8], container: &[u8]) -> bool {
     if !is_choice(&text[..gap]) {
         return false;
     }
-    let reading = reading_of(&text[..gap]);
+    let reading = reading::reading_by(choice_of(&text[..gap]));
     replay_keyed(container, reading, fields::rest_from(text, gap + 1))
 }

@@ -5,6 +5,8 @@ ghost use Prim.Native.Nat.{_≤_};
 mod payload;
 
 use digits::Typed;
+use libc::STDIN_FILENO;
+use libc::STDOUT_FILENO;
 use text::Line;
 
 // The bytes of a line of the list: a key's digits, and LF.
@@ -142,9 +144,9 @@ fn replay(list: &[u8]) -> bool {
 
 fn main() {
     let mut list = io::buffer();
-    let n = io::read_full(0, &mut list);
+    let n = io::read_full(STDIN_FILENO, &mut list);
     let is_list = replay(&list[..n]);
     if !is_list {
-        io::write_all(1, b"stdin is not a list of keys\n");
+        io::write_all(STDOUT_FILENO, b"stdin is not a list of keys\n");
     }
 }

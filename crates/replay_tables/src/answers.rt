@@ -8,11 +8,6 @@ use table::TableAnswer;
 // The least number of 64 bits that stands for a negative one.
 const NEGATIVE: u64 = 0x8000_0000_0000_0000;
 
-// A byte as a number.
-fn wide(byte: u8) -> u64 {
-    byte as u64
-}
-
 // Writes a word and a number.
 fn write_number(word: &[u8], n: u64) {
     text::empty().word(word).decimal(n).end();
@@ -23,9 +18,9 @@ fn write_refusal(refusal: Refusal) {
     let cause = refusal.cause;
     let line = text::empty()
         .word(b"refused ")
-        .decimal(wide(refusal::number_of(cause)));
+        .decimal(refusal::number_of(cause) as u64);
     match cause {
-        Cause::UnknownType(kind) => line.word(b" type ").decimal(wide(kind)).end(),
+        Cause::UnknownType(kind) => line.word(b" type ").decimal(kind as u64).end(),
         _ => line.end(),
     }
 }

@@ -7,6 +7,8 @@ ghost use lib.ListN.{length};
 mod answers;
 
 use fields::Number;
+use libc::STDIN_FILENO;
+use libc::STDOUT_FILENO;
 
 // The longest table of the list.
 const MOST_TABLE: usize = 4096;
@@ -105,18 +107,18 @@ fn replay(list: &[u8]) -> bool {
 // Whether standard input holds more than was read.
 fn more_comes() -> bool {
     let mut byte = [0u8; 1];
-    0 < io::read_full(0, &mut byte)
+    0 < io::read_full(STDIN_FILENO, &mut byte)
 }
 
 fn main() {
     let mut list = io::large_buffer();
-    let n = io::read_full(0, &mut list);
+    let n = io::read_full(STDIN_FILENO, &mut list);
     if more_comes() {
-        io::write_all(1, b"stdin has more than 65536 bytes\n");
+        io::write_all(STDOUT_FILENO, b"stdin has more than 65536 bytes\n");
         return;
     }
     let is_list = replay(&list[..n]);
     if !is_list {
-        io::write_all(1, b"stdin is not a list of tables\n");
+        io::write_all(STDOUT_FILENO, b"stdin is not a list of tables\n");
     }
 }

@@ -1,28 +1,16 @@
 -- No second answer meets a contract of this crate: what a caller learns makes two results one. Assumes nothing.
 use mathlib.Core.Path.{_≡_}
 use Rattle.laws.proofs.OneAnswer.{no-second-answer}
-use Rattle.report.proofs.table_number.Reads as table-number
 use Rattle.report.proofs.table_words.Reads as table-words
-use Rattle.report.proofs.cell_number.Reads as cell-number
 use Rattle.report.proofs.cell_words.Reads as cell-words
-use Rattle.report.proofs.film_number.Reads as film-number
 use Rattle.report.proofs.film_words.Reads as film-words
 use Rattle.report.proofs.list_words.Reads as list-words
-
-pub table-number-once : (κs : _) (args : _) (r r′ : _) (exit exit′ : _) → table-number.Learnt κs args r exit → table-number.Learnt κs args r′ exit′ → r ≡ r′
-table-number-once κs args r r′ exit exit′ = no-second-answer
 
 pub table-words-once : (κs : _) (args : _) (r r′ : _) (exit exit′ : _) → table-words.Learnt κs args r exit → table-words.Learnt κs args r′ exit′ → r ≡ r′
 table-words-once κs args r r′ exit exit′ = no-second-answer
 
-pub cell-number-once : (κs : _) (args : _) (r r′ : _) (exit exit′ : _) → cell-number.Learnt κs args r exit → cell-number.Learnt κs args r′ exit′ → r ≡ r′
-cell-number-once κs args r r′ exit exit′ = no-second-answer
-
 pub cell-words-once : (κs : _) (args : _) (r r′ : _) (exit exit′ : _) → cell-words.Learnt κs args r exit → cell-words.Learnt κs args r′ exit′ → r ≡ r′
 cell-words-once κs args r r′ exit exit′ = no-second-answer
-
-pub film-number-once : (κs : _) (args : _) (r r′ : _) (exit exit′ : _) → film-number.Learnt κs args r exit → film-number.Learnt κs args r′ exit′ → r ≡ r′
-film-number-once κs args r r′ exit exit′ = no-second-answer
 
 pub film-words-once : (κs : _) (args : _) (r r′ : _) (exit exit′ : _) → film-words.Learnt κs args r exit → film-words.Learnt κs args r′ exit′ → r ≡ r′
 film-words-once κs args r r′ exit exit′ = no-second-answer

@@ -29,10 +29,6 @@ abbrev pub nameLength : ℕ → Name → ℕ
 nameLength fallback (Part start len) = len
 nameLength fallback Fallback = fallback
 
-abbrev pub filmNumber : Extracted → ℕ
-filmNumber (extracted.Film contents) = 0
-filmNumber (extracted.Refused refusal) = numberOf (refusal .cause)
-
 -- number, place, two values: nothing is refused. Then the name, audio, codecs, kinds and sizes
 abbrev pub contentsWords : ℕ → Contents → List ℕ
 contentsWords fallback c =

@@ -8,18 +8,10 @@ use Rattle.lookup.specs.declared.Lookup.the-variants as lookup
 use Rattle.table.specs.declared.TableAnswer.{TableAnswer}
 use Rattle.table.specs.declared.TableAnswer.the-variants.{Table, NoTable}
 
-abbrev pub tableNumber : TableAnswer → ℕ
-tableNumber (Table columns rows) = 0
-tableNumber (NoTable refusal) = numberOf (refusal .cause)
-
 -- number, place, type, columns, rows
 abbrev pub tableWords : TableAnswer → List ℕ
 tableWords (Table columns rows) = 0 ∷ 0 ∷ 0 ∷ columns ∷ rows ∷ []
 tableWords (NoTable refusal) = numberOf (refusal .cause) ∷ refusal .place ∷ firstValue (refusal .cause) ∷ 0 ∷ 0 ∷ []
-
-abbrev pub cellNumber : Lookup → ℕ
-cellNumber (lookup.Holds cell) = 0
-cellNumber (lookup.NoTable refusal) = numberOf (refusal .cause)
 
 -- number, place, type, case, value or start, length
 abbrev pub cellWords : Lookup → List ℕ

@@ -1,8 +1,8 @@
 // Answers as words: what the reports hold that other programs lend. Ours, beyond document 01: it has the numbers and what
 // is also returned, and names no report.
 ghost use mathlib.Core.Path.{_≡_};
-ghost use Rattle.report.specs.TableWords.{tableNumber, tableWords, cellNumber, cellWords};
-ghost use Rattle.report.specs.FilmWords.{bitOf, nameSource, nameStart, nameLength, filmNumber, contentsWords, filmWords, listWords};
+ghost use Rattle.report.specs.TableWords.{tableWords, cellWords};
+ghost use Rattle.report.specs.FilmWords.{bitOf, nameSource, nameStart, nameLength, contentsWords, filmWords, listWords};
 use extract::Contents;
 use extract::Extracted;
 use list::Listed;
@@ -22,22 +22,6 @@ pub const FILM_WORDS: usize = 16;
 // The words of a listing's report.
 pub const LIST_WORDS: usize = 5;
 
-// The number that a table's report begins with: the refusal's, 0 where there is none.
-pub fn table_number(answer: TableAnswer) -> u8
-    ensures { λ r. ⌜ r ≡ tableNumber answer ⌝ }
-{
-    match answer {
-        TableAnswer::Table {
-            columns: _,
-            rows: _,
-        } => 0,
-        TableAnswer::NoTable(refusal) => {
-            let cause = refusal.cause;
-            refusal::number_of(cause)
-        }
-    }
-}
-
 // A table's words: number, place, type, columns, rows.
 pub fn table_words(answer: TableAnswer) -> [u64; TABLE_WORDS]
     ensures { λ r. ⌜ r ≡ tableWords answer ⌝ }
@@ -49,19 +33,6 @@ pub fn table_words(answer: TableAnswer) -> [u64; TABLE_WORDS]
             let number = refusal::number_of(cause);
             let value = refusal::first_value(cause);
             [number as u64, refusal.place as u64, value as u64, 0, 0]
-        }
-    }
-}
-
-// The number that a cell's report begins with: the refusal's, 0 where there is none.
-pub fn cell_number(answer: Lookup) -> u8
-    ensures { λ r. ⌜ r ≡ cellNumber answer ⌝ }
-{
-    match answer {
-        Lookup::Holds(_) => 0,
-        Lookup::NoTable(refusal) => {
-            let cause = refusal.cause;
-            refusal::number_of(cause)
         }
     }
 }
@@ -125,19 +96,6 @@ fn name_length(name: Name, fallback: usize) -> usize
     match name {
         Name::Part { start: _, len } => len,
         Name::Fallback => fallback,
-    }
-}
-
-// The number that a film's report begins with: the refusal's, 0 where there is none.
-pub fn film_number(answer: Extracted) -> u8
-    ensures { λ r. ⌜ r ≡ filmNumber answer ⌝ }
-{
-    match answer {
-        Extracted::Film(_) => 0,
-        Extracted::Refused(refusal) => {
-            let cause = refusal.cause;
-            refusal::number_of(cause)
-        }
     }
 }
 

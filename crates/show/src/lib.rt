@@ -6,7 +6,7 @@ use libc::STDIN_FILENO;
 use libc::STDOUT_FILENO;
 
 // One byte more than a container may have here, so that a longer one is told from it.
-const ROOM: usize = 16385;
+const ROOM: usize = lines::LONGEST + 1;
 
 // Prints a line for each chunk of a container, or the one that tells the refusal.
 pub fn print(container: &[u8]) {

@@ -10,7 +10,7 @@ ghost use Rattle.cell.specs.Types.{kindOf, widthOf};
 ghost use Rattle.cell.specs.Parts.{endOf, textAt, dataAt};
 ghost use Rattle.cell.specs.Cells.{valueAt, cellAt};
 ghost use Rattle.column.specs.Columns.{columnAt};
-ghost use Rattle.table.specs.Walks.{afterCell, afterColumn, columnsFrom, rowFrom, rowsFrom, walkOf};
+ghost use Rattle.table.specs.Walks.{afterCell, afterColumn, columnsFrom, rowFrom, rowsFrom, rowsAt, walkOf};
 ghost use Rattle.table.specs.LastZero.{isAt, zerosEnd};
 ghost use Rattle.table.specs.Tables.{tableOf, tableAt};
 use cell::CellAnswer;
@@ -18,7 +18,7 @@ use refusal::Cause;
 use refusal::Refusal;
 
 // How far a walk came: past the last byte it read, or to a refusal.
-pub enum Walk {
+enum Walk {
     Done(usize),
     Stopped(Cause),
 }
@@ -232,7 +232,17 @@ fn walk_rows(
     Walk::Done(at)
 }
 
-// All columns, then all rows. Before the body there is nothing to read, as there is nothing past its end.
+// Where the rows start in the body. Before it there is nothing to read, as there is nothing past its end.
+pub fn rows_at(body: &[u8], from: usize) -> usize
+    ensures { λ r. ⌜ r ≡ rowsAt (now (body .entry)) from ⌝ }
+{
+    if from < cell::BODY {
+        return body.len();
+    }
+    from - cell::BODY
+}
+
+// All columns, then all rows.
 fn walk_table(
     body: &[u8],
     columns: usize,
@@ -247,11 +257,8 @@ fn walk_table(
     let ends = zeros_end(body);
     match walk_columns(body, ends, columns, strings, blobs) {
         Walk::Done(_) => {
-            if from < cell::BODY {
-                walk_rows(body, ends, columns, rows, body.len(), strings, blobs)
-            } else {
-                walk_rows(body, ends, columns, rows, from - cell::BODY, strings, blobs)
-            }
+            let start = rows_at(body, from);
+            walk_rows(body, ends, columns, rows, start, strings, blobs)
         }
         Walk::Stopped(cause) => Walk::Stopped(cause),
     }

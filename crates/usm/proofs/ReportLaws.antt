@@ -1,34 +1,37 @@
--- A report that is too short for an answer of so many words, and one that is not. Assumes nothing.
-use Prim.Native.Nat.{ℕ, _≤_, _<_}
-use mathlib.Core.Path.{_≡_, ap, _∙_}
+-- A report that is too short for an answer's words, and one that is not. Assumes nothing.
+use Prim.Native.Nat.{ℕ, suc, _≤_, _<_}
+use mathlib.Core.Path.{_≡_, subst, _∙_}
 use mathlib.Core.List.{List, _++_}
 use native.Mathlib.Omega.{arith}
 use lib.ListN.{length, drop}
 use borrow.Author.Tests.{lt-ltb, le-ltb}
-use Rattle.usm.specs.Reports.{ifShort, reported, given}
+use Rattle.laws.specs.Lists.{at}
+use Rattle.report.proofs.WordLaws.{Sized}
+use Rattle.usm.specs.Reports.{ifShort, given, reported, Reported}
 
-module _ (words report : List ℕ) (size : ℕ) (sized : length words ≡ size) where
-  pub short : {A : Type 0} (a b : A) → length report < size → a ≡ ifShort words report a b
+module _ (words report : List ℕ) where
+  pub short : {A : Type 0} (a b : A) → length report < length words → a ≡ ifShort words report a b
   unfolding ifShort
-  short a b h = let less : length report < length words = omega arith in rw (lt-ltb (length report) (length words) less)
+  short a b h = rw (lt-ltb (length report) (length words) h)
 
-  pub long : {A : Type 0} (a b : A) → size ≤ length report → b ≡ ifShort words report a b
+  pub long : {A : Type 0} (a b : A) → length words ≤ length report → b ≡ ifShort words report a b
   unfolding ifShort
-  long a b h = let enough : length words ≤ length report = omega arith in rw (le-ltb (length report) (length words) enough)
+  long a b h = rw (le-ltb (length report) (length words) h)
 
-  pub given-short : (number : ℕ) → length report < size → 255 ≡ given words number report
-  unfolding given
-  given-short number h = short 255 number h
+  pub too-short : length report < length words → Reported words report 255 report
+  unfolding given reported
+  too-short h = (short 255 (at words 0) h, short report (words ++ drop (length words) report) h)
 
-  pub given-long : (number : ℕ) → size ≤ length report → number ≡ given words number report
-  unfolding given
-  given-long number h = long 255 number h
+  -- the words are put, and the first is given
+  pub answered : (r : ℕ) (after : List ℕ) → r ≡ at words 0 → after ≡ words ++ drop (length words) report → length words ≤ length report → Reported words report r after
+  unfolding given reported
+  answered r after first puts h = (first ∙ long 255 (at words 0) h, puts ∙ long report (words ++ drop (length words) report) h)
 
-  pub stays : length report < size → report ≡ reported words report
-  unfolding reported
-  stays h = short report (words ++ drop (length words) report) h
+-- ---- words that are an answer's
 
-  -- what is put are the answer's words
-  pub put-as : (put after : List ℕ) → put ≡ words → after ≡ put ++ drop (length put) report → size ≤ length report → after ≡ reported words report
-  unfolding reported
-  put-as put after same puts h = puts ∙ ap (λ (l : List ℕ). l ++ drop (length l) report) same ∙ long report (words ++ drop (length words) report) h
+module _ (words : List ℕ) (wanted : List ℕ) (same : words ≡ wanted) where
+  pub begins-with-a-number : (n : ℕ) → Sized (suc n) wanted → (0 < length words) × (at words 0 < 256)
+  begins-with-a-number n sized = rw same (omega (arith, sized .0), sized .1)
+
+  pub as-wanted : (report : List ℕ) (r : ℕ) (after : List ℕ) → Reported words report r after → Reported wanted report r after
+  as-wanted report r after = subst (λ (w : List ℕ). Reported w report r after) same

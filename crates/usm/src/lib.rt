@@ -1,17 +1,18 @@
 // What another program links: tables and cells, whole films and their chunks, on byte slices, numbers and a lent report
 // of words. Declared for C in include/usm.h; `rt staticlib usm` builds the library.
 ghost use mathlib.Core.Path.{_≡_};
-ghost use Prim.Native.Nat.{_≤_};
+ghost use Prim.Native.Nat.{_≤_, _<_};
 ghost use mathlib.Core.List.{_++_};
 ghost use lib.ListN.{length, drop};
+ghost use Rattle.laws.specs.Lists.{at};
 ghost use Rattle.table.specs.Tables.{tableAt};
 ghost use Rattle.lookup.specs.Lookups.{cellOf};
 ghost use Rattle.reading.specs.Choices.{readingBy};
-ghost use Rattle.film.specs.Films.{filmOf, surveyOf};
-ghost use Rattle.list.specs.Listing.{listedIn, listNumber, filledBy};
-ghost use Rattle.report.specs.TableWords.{tableNumber, tableWords, cellNumber, cellWords};
+ghost use Rattle.clear.specs.Unmasking.{keyBy};
+ghost use Rattle.list.specs.Listing.{listedOf, Listing};
+ghost use Rattle.report.specs.TableWords.{tableWords, cellWords};
 ghost use Rattle.report.specs.FilmWords.{listWords};
-ghost use Rattle.usm.specs.Reports.{given, reported};
+ghost use Rattle.usm.specs.Reports.{Reported};
 ghost use Rattle.usm.specs.Exports.{FilmReported};
 use list::ChunkRecord;
 
@@ -30,18 +31,26 @@ fn put(words: &[u64], report: &mut [u64])
     }
 }
 
+// Gives an answer by its words: they begin the report, and the first is the number that is given. A report that is too
+// short stays, and 255 is given.
+fn answer_by(words: &[u64], report: &mut [u64]) -> u8
+    requires { ⌜ (0 < length (now words)) × (at (now words) 0 < 256) ⌝ }
+    ensures { λ r. ⌜ Reported (now (words .entry)) (now (report .entry)) r (now (report .exit)) ⌝ }
+{
+    if report.len() < words.len() {
+        return TOO_SHORT;
+    }
+    put(words, report);
+    words[0] as u8
+}
+
 // The table at a place of a slice: its number and its report.
 #[no_mangle]
 pub extern "C" fn usm_table(bytes: &[u8], place: usize, report: &mut [u64]) -> u8
-    ensures { λ r. ⌜ (r ≡ given (tableWords (tableAt (now (bytes .entry)) place)) (tableNumber (tableAt (now (bytes .entry)) place)) (now (report .entry))) × (now (report .exit) ≡ reported (tableWords (tableAt (now (bytes .entry)) place)) (now (report .entry))) ⌝ }
+    ensures { λ r. ⌜ Reported (tableWords (tableAt (now (bytes .entry)) place)) (now (report .entry)) r (now (report .exit)) ⌝ }
 {
-    if report.len() < report::TABLE_WORDS {
-        return TOO_SHORT;
-    }
-    let answer = table::read_table(bytes, place);
-    let words = report::table_words(answer);
-    put(&words, report);
-    report::table_number(answer)
+    let words = report::table_words(table::read_table(bytes, place));
+    answer_by(&words, report)
 }
 
 // The cell of the last column of a name, in a row of the table at a place of a slice: its number and its report.
@@ -53,15 +62,10 @@ pub extern "C" fn usm_cell(
     row: usize,
     report: &mut [u64],
 ) -> u8
-    ensures { λ r. ⌜ (r ≡ given (cellWords (cellOf (now (bytes .entry)) place (now (name .entry)) row)) (cellNumber (cellOf (now (bytes .entry)) place (now (name .entry)) row)) (now (report .entry))) × (now (report .exit) ≡ reported (cellWords (cellOf (now (bytes .entry)) place (now (name .entry)) row)) (now (report .entry))) ⌝ }
+    ensures { λ r. ⌜ Reported (cellWords (cellOf (now (bytes .entry)) place (now (name .entry)) row)) (now (report .entry)) r (now (report .exit)) ⌝ }
 {
-    if report.len() < report::CELL_WORDS {
-        return TOO_SHORT;
-    }
-    let answer = lookup::cell_of(bytes, place, name, row);
-    let words = report::cell_words(answer);
-    put(&words, report);
-    report::cell_number(answer)
+    let words = report::cell_words(lookup::cell_of(bytes, place, name, row));
+    answer_by(&words, report)
 }
 
 // Both streams of a film, its number and its report. Audio is asked for by every number but 0, and so is a key given.
@@ -76,7 +80,7 @@ pub extern "C" fn usm_extract(
     sound: &mut [u8],
     report: &mut [u64],
 ) -> u8
-    ensures { λ r. ⌜ FilmReported (now (container .entry)) audio keyed key (now (fallback .entry)) (now (video .entry)) (now (sound .entry)) (now (report .entry)) r (now (video .exit)) (now (sound .exit)) (now (report .exit)) ⌝ }
+    ensures { λ r. ⌜ FilmReported (now (container .entry)) (readingBy audio) (keyBy keyed key) (now (fallback .entry)) (now (video .entry)) (now (sound .entry)) (now (report .entry)) r (now (video .exit)) (now (sound .exit)) (now (report .exit)) ⌝ }
 {
     if report.len() < report::FILM_WORDS {
         return TOO_SHORT;
@@ -85,36 +89,30 @@ pub extern "C" fn usm_extract(
     let given = clear::key_by(keyed, key);
     let answer = extract::extract(container, reading, given, video, sound);
     let words = report::film_words(answer, fallback.len());
-    put(&words, report);
-    report::film_number(answer)
+    answer_by(&words, report)
 }
 
 // What a listing of a container into so many records answers: its number and its report. Audio is asked for by every
 // number but 0. No list is filled.
 #[no_mangle]
 pub extern "C" fn usm_chunks(container: &[u8], audio: u8, room: usize, report: &mut [u64]) -> u8
-    ensures { λ r. ⌜ (r ≡ given (listWords (listedIn room (surveyOf (filmOf (now (container .entry)) (readingBy audio))))) (listNumber (listedIn room (surveyOf (filmOf (now (container .entry)) (readingBy audio))))) (now (report .entry))) × (now (report .exit) ≡ reported (listWords (listedIn room (surveyOf (filmOf (now (container .entry)) (readingBy audio))))) (now (report .entry))) ⌝ }
+    ensures { λ r. ⌜ Reported (listWords (listedOf (now (container .entry)) (readingBy audio) room)) (now (report .entry)) r (now (report .exit)) ⌝ }
 {
-    if report.len() < report::LIST_WORDS {
-        return TOO_SHORT;
-    }
     let reading = reading::reading_by(audio);
-    let answer = list::list_answer(container, reading, room);
-    let words = report::list_words(answer);
-    put(&words, report);
-    list::list_number(answer)
+    let words = report::list_words(list::list_answer(container, reading, room));
+    answer_by(&words, report)
 }
 
 // Fills a lent list with a record for each chunk of a container, and gives the number: 0, or the refusal's, which leaves the list as it was.
 #[no_mangle]
 pub extern "C" fn usm_list(container: &[u8], audio: u8, list: &mut [ChunkRecord]) -> u8
-    ensures { λ r. ⌜ (r ≡ listNumber (listedIn (length (now (list .entry))) (surveyOf (filmOf (now (container .entry)) (readingBy audio))))) × (now (list .exit) ≡ filledBy (filmOf (now (container .entry)) (readingBy audio)) (now (list .entry))) ⌝ }
+    ensures { λ r. ⌜ Listing (now (container .entry)) (readingBy audio) (now (list .entry)) r (now (list .exit)) ⌝ }
 {
     let plan = list::list_plan(container, audio, list.len());
     let mut place = plan.start;
     let mut filled = 0;
     while filled < plan.count {
-        let step = list::record_at(container, place, plan.heard);
+        let step = list::record_at(container, place, plan.reading);
         list[filled] = step.made;
         place = step.next;
         filled += 1;

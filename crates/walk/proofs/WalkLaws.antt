@@ -1,7 +1,7 @@
 -- A walk goes by steps, whatever number of chunks its definition allows: each chunk leaves fewer bytes. And what it comes to fits the bytes that are left.
 -- Assumes nothing.
 use mathlib.Core.Path.{_≡_, refl, sym, ap, _∙_}
-use mathlib.Core.List.{List, []}
+use mathlib.Core.List.{List, [], _∷_}
 use Prim.Native.Nat.{ℕ, zero, suc, _+_, _-_, _≤_, _<_}
 use native.Mathlib.Omega.{arith}
 use lib.ListN.{length}
@@ -15,7 +15,7 @@ use Rattle.chunk.specs.declared.ChunkStep.the-variants.{Over, Found, Refused}
 use Rattle.chunk.specs.Chunks.{chunkAt}
 use Rattle.chunk.proofs.CaseLaws.{over}
 use Rattle.chunk.proofs.FoundLaws.{found}
-use Rattle.walk.specs.Walks.{Walk, clean, stopped, onto, goOn, walkFor, walkFrom, videoIn, audioIn, sizeOf, videoSize, audioSize}
+use Rattle.walk.specs.Walks.{clean, stopped, onto, goOn, walkFor, walkFrom, videoIn, audioIn, sizeOf, videoSize, audioSize}
 
 -- each chunk leaves fewer bytes
 pub falls : (container : List ℕ) (reading : Reading) (c : ℕ) (chunk : Chunk) → chunkAt container reading c ≡ Found chunk → length container - chunk .next < length container - c
@@ -74,30 +74,41 @@ both-in Audio n = omega arith
 both-in Other n = omega arith
 both-in End n = omega arith
 
-abbrev Fits : ℕ → Walk → Type 0
-Fits left walk = (videoSize (walk .chunks) + audioSize (walk .chunks) ≤ left) × (length (walk .chunks) ≤ left)
+-- what holds of no chunks, and of a chunk before chunks of which it holds, holds of every walk. Each is told with its place
+module _ (container : List ℕ) (reading : Reading) (Holds : ℕ → List Chunk → Type 0) (none : (c : ℕ) → Holds c [])
+    (more : (c : ℕ) (chunk : Chunk) (chunks : List Chunk) → chunkAt container reading c ≡ Found chunk → Holds (chunk .next) chunks → Holds c (chunk ∷ chunks)) where
+  by-step : (n c : ℕ) → ((d : ℕ) → Holds d (walkFor container reading n d .chunks)) → (step : ChunkStep) → chunkAt container reading c ≡ step
+      → Holds c (goOn step (walkFor container reading n) .chunks)
+  by-step n c ih Over e = none c
+  by-step n c ih (Found chunk) e = more c chunk (walkFor container reading n (chunk .next) .chunks) e (ih (chunk .next))
+  by-step n c ih (Refused refusal) e = none c
+
+  by-count : (n c : ℕ) → Holds c (walkFor container reading n c .chunks)
+  unfolding walkFor
+  by-count zero c = none c
+  by-count (suc n) c = by-step n c (by-count n) (chunkAt container reading c) refl
+
+  pub every-walk : (c : ℕ) → Holds c (walkFrom container reading c .chunks)
+  unfolding walkFrom
+  every-walk c = by-count (length container - c) c
 
 module _ (container : List ℕ) (reading : Reading) where
-  step-fits : (n c : ℕ) → ((d : ℕ) → Fits (length container - d) (walkFor container reading n d)) → (step : ChunkStep) → chunkAt container reading c ≡ step
-      → Fits (length container - c) (goOn step (walkFor container reading n))
+  abbrev Fits : ℕ → List Chunk → Type 0
+  Fits c chunks = (videoSize chunks + audioSize chunks ≤ length container - c) × (length chunks ≤ length container - c)
+
+  one-more-fits : (c : ℕ) (chunk : Chunk) (chunks : List Chunk) → chunkAt container reading c ≡ Found chunk → Fits (chunk .next) chunks → Fits c (chunk ∷ chunks)
   unfolding sizeOf
-  step-fits n c ih Over e = omega arith
-  step-fits n c ih (Found chunk) e =
+  one-more-fits c chunk chunks e rest =
       let w = found container reading c chunk e in
       let b = both-in (chunk .kind) (chunk .len) in
-      let r = ih (chunk .next) in
       (omega arith, omega arith)
-  step-fits n c ih (Refused refusal) e = omega arith
 
-  fits : (n c : ℕ) → Fits (length container - c) (walkFor container reading n c)
-  unfolding walkFor sizeOf
-  fits zero c = omega arith
-  fits (suc n) c = step-fits n c (fits n) (chunkAt container reading c) refl
+  none-fits : (c : ℕ) → Fits c []
+  unfolding sizeOf
+  none-fits c = omega arith
 
   pub sizes-fit : (c : ℕ) → videoSize (walkFrom container reading c .chunks) + audioSize (walkFrom container reading c .chunks) ≤ length container - c
-  unfolding walkFrom
-  sizes-fit c = fits (length container - c) c .0
+  sizes-fit c = every-walk container reading Fits none-fits one-more-fits c .0
 
   pub count-fits : (c : ℕ) → length (walkFrom container reading c .chunks) ≤ length container - c
-  unfolding walkFrom
-  count-fits c = fits (length container - c) c .1
+  count-fits c = every-walk container reading Fits none-fits one-more-fits c .1

@@ -37,7 +37,7 @@ unfoldable pub walkFor : List ℕ → Reading → ℕ → ℕ → Walk
 walkFor container reading zero c = record { chunks = []; ending = clean }
 walkFor container reading (suc n) c = goOn (chunkAt container reading c) (walkFor container reading n)
 
--- all chunks from c on: there are no more of them than bytes left. `walk-step` of proofs/WalkLaws.antt says that this number cuts no walk short
+-- all chunks from c on: there are no more of them than bytes left. `WalkGoesByChunks` of Promises.antt says that this number cuts no walk short
 unfoldable pub walkFrom : List ℕ → Reading → ℕ → Walk
 walkFrom container reading c = walkFor container reading (length container - c) c
 

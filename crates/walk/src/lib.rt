@@ -18,7 +18,7 @@ pub enum Measured {
 }
 
 // How much of a payload goes to video.
-pub fn video_in(kind: Kind, len: usize) -> usize
+fn video_in(kind: Kind, len: usize) -> usize
     ensures { λ r. ⌜ r ≡ videoIn kind len ⌝ }
 {
     match kind {
@@ -30,7 +30,7 @@ pub fn video_in(kind: Kind, len: usize) -> usize
 }
 
 // How much of a payload goes to audio.
-pub fn audio_in(kind: Kind, len: usize) -> usize
+fn audio_in(kind: Kind, len: usize) -> usize
     ensures { λ r. ⌜ r ≡ audioIn kind len ⌝ }
 {
     match kind {
@@ -41,7 +41,8 @@ pub fn audio_in(kind: Kind, len: usize) -> usize
     }
 }
 
-// The count of the chunks from a place on and the sizes of both streams, or the first refusal.
+// The count of the chunks from a place on and the sizes of both streams, or the first refusal. `reading` is how this film
+// is read, as `chunk::chunk_at` has it.
 pub fn measure(container: &[u8], place: usize, reading: Reading) -> Measured
     ensures { λ r. ⌜ r ≡ measureOf (walkFrom (now (container .entry)) reading place) ⌝ }
 {

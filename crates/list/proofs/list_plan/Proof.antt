@@ -21,13 +21,13 @@ list-count-requires c κs = search needs
 start-in-requires : tie.Need-start-in-requires
 start-in-requires c κs = search needs
 
-heard-in-requires : tie.Need-heard-in-requires
-heard-in-requires c κs = search needs
+reading-in-requires : tie.Need-reading-in-requires
+reading-in-requires c κs = search needs
 
 returns : tie.Need-returns
 returns c =
     let s = c .before .before .before .before .before in
-    rw (c .heard-in .ensures, c .before .start-in .ensures, c .before .before .list-count .ensures, c .before .before .before .list-number .ensures, c .before .before .before .before .listed-in .ensures, s .survey .ensures, s .before .reading-by .ensures)
+    rw (c .reading-in .ensures, c .before .start-in .ensures, c .before .before .list-count .ensures, c .before .before .before .list-number .ensures, c .before .before .before .before .listed-in .ensures, s .survey .ensures, s .before .reading-by .ensures)
 
 pub list-plan-spec : {M : Type 1} → statement M
 list-plan-spec =
@@ -39,5 +39,5 @@ list-plan-spec =
     list-number-requires
     list-count-requires
     start-in-requires
-    heard-in-requires
+    reading-in-requires
     returns)

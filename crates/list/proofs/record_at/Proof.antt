@@ -2,22 +2,18 @@
 use Prim.Native.Nat.{ℕ}
 use mathlib.Core.Path.{_≡_, sym, ap, _∙_}
 use mathlib.Core.List.{List}
-use mathlib.Core.Bool.{Bool}
 use Rattle.reading.specs.declared.Reading.{Reading}
 use Rattle.chunk.specs.declared.ChunkStep.{ChunkStep}
 use Rattle.chunk.specs.Chunks.{chunkAt}
-use Rattle.list.specs.Filling.{hearing, stepOf, stepAt}
+use Rattle.list.specs.Filling.{stepOf, stepAt}
 use borrow.Author.Needs.{needs}
 use Rattle.list.proofs.record_at.Statement.{statement}
 use Rattle.list.proofs.record_at.Tie as tie
 
-step-is : (container : List ℕ) (heard : Bool) (place : ℕ) (reading : Reading) (found step : ChunkStep)
-    → reading ≡ hearing heard → found ≡ chunkAt container reading place → found ≡ step → stepOf step ≡ stepAt container heard place
+step-is : (container : List ℕ) (reading : Reading) (place : ℕ) (found step : ChunkStep)
+    → found ≡ chunkAt container reading place → found ≡ step → stepOf step ≡ stepAt container reading place
 unfolding stepAt
-step-is container heard place reading found step h e f = ap stepOf (sym f ∙ e ∙ ap (λ (k : Reading). chunkAt container k place) h)
-
-hearing-of-requires : tie.Need-hearing-of-requires
-hearing-of-requires c κs = search needs
+step-is container reading place found step e f = ap stepOf (sym f ∙ e)
 
 chunk-at-requires : tie.Need-chunk-at-requires
 chunk-at-requires c κs = search needs
@@ -43,23 +39,22 @@ no-record-requires-2 c κs = search needs
 returns : tie.Need-returns
 returns c =
     let t = c .before .before .before in
-    c .no-record .ensures ∙ step-is _ _ _ _ _ _ (t .before .hearing-of .ensures) (t .chunk-at .ensures) (c .before .enum-told .given .1)
+    c .no-record .ensures ∙ step-is _ _ _ _ _ (t .chunk-at .ensures) (c .before .enum-told .given .1)
 
 returns-2 : tie.Need-returns-2
 returns-2 c =
     let t = c .before .before .before .before in
-    rw (c .record-of .ensures) (step-is _ _ _ _ _ _ (t .before .hearing-of .ensures) (t .chunk-at .ensures) (c .before .before .chunk .given .1))
+    rw (c .record-of .ensures) (step-is _ _ _ _ _ (t .chunk-at .ensures) (c .before .before .chunk .given .1))
 
 returns-3 : tie.Need-returns-3
 returns-3 c =
     let t = c .before .before .before in
-    c .no-record2 .ensures ∙ step-is _ _ _ _ _ _ (t .before .hearing-of .ensures) (t .chunk-at .ensures) (c .before .enum-told2 .given .1)
+    c .no-record2 .ensures ∙ step-is _ _ _ _ _ (t .chunk-at .ensures) (c .before .enum-told2 .given .1)
 
 pub record-at-spec : {M : Type 1} → statement M
 record-at-spec =
     tie.close
     (tie.spec
-    hearing-of-requires
     chunk-at-requires
     enum-told
     no-record-requires

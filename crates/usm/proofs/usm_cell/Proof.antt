@@ -1,18 +1,11 @@
 -- `usm::usm_cell` meets its contract, by those of the answer and of its words. Assumes nothing.
 use mathlib.Core.Path.{ap, _∙_}
-use Rattle.lookup.specs.Lookups.{cellOf}
-use Rattle.report.specs.TableWords.{cellNumber, cellWords}
-use Rattle.report.proofs.WordLaws.{cell-size}
-use Rattle.usm.proofs.ReportLaws.{given-short, given-long, stays, put-as}
+use Rattle.usm.proofs.ReportLaws.{begins-with-a-number, as-wanted}
+use Rattle.report.specs.TableWords.{cellWords}
+use Rattle.report.proofs.WordLaws.{cell-sized}
 use borrow.Author.Needs.{needs}
 use Rattle.usm.proofs.usm_cell.Statement.{statement}
 use Rattle.usm.proofs.usm_cell.Tie as tie
-
-returns : tie.Need-returns
-returns c =
-    let a = c .before .before .before .before .args in
-    let sized = cell-size (cellOf (a .bytes .now) (a .place) (a .name .now) (a .row)) in
-    (given-short _ _ 6 sized _ (c .if1 .taken), stays _ _ 6 sized (c .if1 .taken))
 
 cell-of-requires : tie.Need-cell-of-requires
 cell-of-requires c κs = search needs
@@ -20,37 +13,21 @@ cell-of-requires c κs = search needs
 cell-words-requires : tie.Need-cell-words-requires
 cell-words-requires c κs = search needs
 
-slice-aggregate-put : tie.Need-slice-aggregate-put
-slice-aggregate-put c = search needs
+slice-aggregate-answer-by : tie.Need-slice-aggregate-answer-by
+slice-aggregate-answer-by c = search needs
 
-put-requires : tie.Need-put-requires
-put-requires c κs = search needs
-
-cell-number-requires : tie.Need-cell-number-requires
-cell-number-requires c κs = search needs
+answer-by-requires : tie.Need-answer-by-requires
+answer-by-requires c κs =
+    let words = c .before .before in
+    begins-with-a-number _ _ (words .cell-words .ensures) 5 (cell-sized (words .before .cell-of .result))
 
 same-length : tie.Need-same-length
 same-length c = search needs
 
-returns-2 : tie.Need-returns-2
-returns-2 c =
-    let a = c .before .before .before .before .before .before .before .before .before .before .before .before .args in
-    let sized = cell-size (cellOf (a .bytes .now) (a .place) (a .name .now) (a .row)) in
-    let answer = c .before .before .before .before .before .before .before .cell-of .ensures in
-    let room = c .before .before .before .before .before .before .before .before .if1 .left in (
-      c .cell-number .ensures ∙ ap cellNumber answer ∙ given-long _ _ 6 sized _ room,
-      put-as _ _ 6 sized _ _ (c .before .before .before .before .before .before .cell-words .ensures ∙ ap cellWords answer) (c .before .before .before .put .ensures) room,
-    )
+returns : tie.Need-returns
+returns c =
+    let words = c .before .before .before .before .before in
+    as-wanted _ _ (words .cell-words .ensures ∙ ap cellWords (words .before .cell-of .ensures)) _ _ _ (c .before .before .answer-by .ensures)
 
 pub usm-cell-spec : {M : Type 1} → statement M
-usm-cell-spec =
-    tie.close
-    (tie.spec
-    returns
-    cell-of-requires
-    cell-words-requires
-    slice-aggregate-put
-    put-requires
-    cell-number-requires
-    same-length
-    returns-2)
+usm-cell-spec = tie.close (tie.spec cell-of-requires cell-words-requires slice-aggregate-answer-by answer-by-requires same-length returns)

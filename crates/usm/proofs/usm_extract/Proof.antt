@@ -1,15 +1,17 @@
 -- `usm::usm_extract` meets its contract, by those of the extraction and of its words. Assumes nothing.
+use Prim.Native.Nat.{_≤_, _<_}
 use mathlib.Core.Path.{ap, _∙_}
+use native.Mathlib.Omega.{arith}
 use lib.ListN.{length}
 use Rattle.extract.specs.declared.Extracted.{Extracted}
-use Rattle.extract.specs.Extraction.{leftBy, videoOf, audioOf}
+use Rattle.extract.specs.Extraction.{extractedOf, leftBy, videoOf, audioOf}
 use Rattle.reading.specs.Choices.{readingBy}
 use Rattle.clear.specs.Unmasking.{keyBy}
 use Rattle.film.specs.Films.{filmOf}
-use Rattle.report.specs.FilmWords.{filmNumber, filmWords}
-use Rattle.report.proofs.WordLaws.{film-size}
-use Rattle.usm.specs.Exports.{answerOn}
-use Rattle.usm.proofs.ReportLaws.{short, long, given-short, given-long, stays, put-as}
+use Rattle.report.specs.FilmWords.{filmWords}
+use Rattle.report.proofs.WordLaws.{film-sized}
+use Rattle.usm.specs.Exports.{wordsOn}
+use Rattle.usm.proofs.ReportLaws.{short, long, too-short, begins-with-a-number, as-wanted}
 use borrow.Author.Needs.{needs}
 use Rattle.usm.proofs.usm_extract.Statement.{statement}
 use Rattle.usm.proofs.usm_extract.Tie as tie
@@ -17,12 +19,9 @@ use Rattle.usm.proofs.usm_extract.Tie as tie
 returns : tie.Need-returns
 returns c =
     let a = c .before .before .before .before .before .before .args in
-    let sized = film-size (length (a .fallback .now)) (answerOn (a .container .now) (a .audio) (a .video .now) (a .sound .now)) in (
-      given-short _ _ 16 sized _ (c .if1 .taken),
-      stays _ _ 16 sized (c .if1 .taken),
-      short _ _ 16 sized _ _ (c .if1 .taken),
-      short _ _ 16 sized _ _ (c .if1 .taken),
-    )
+    let sized = film-sized (length (a .fallback .now)) (extractedOf (a .container .now) (readingBy (a .audio)) (a .video .now) (a .sound .now)) in
+    let less : length (a .report .now) < length (wordsOn (a .container .now) (readingBy (a .audio)) (a .fallback .now) (a .video .now) (a .sound .now)) = omega (arith, c .if1 .taken, sized .0) in
+    (too-short _ _ less, short _ _ _ _ less, short _ _ _ _ less)
 
 reading-by-requires : tie.Need-reading-by-requires
 reading-by-requires c κs = search needs
@@ -36,14 +35,13 @@ extract-requires c κs = search needs
 film-words-requires : tie.Need-film-words-requires
 film-words-requires c κs = search needs
 
-slice-aggregate-put : tie.Need-slice-aggregate-put
-slice-aggregate-put c = search needs
+slice-aggregate-answer-by : tie.Need-slice-aggregate-answer-by
+slice-aggregate-answer-by c = search needs
 
-put-requires : tie.Need-put-requires
-put-requires c κs = search needs
-
-film-number-requires : tie.Need-film-number-requires
-film-number-requires c κs = search needs
+answer-by-requires : tie.Need-answer-by-requires
+answer-by-requires c κs =
+    let words = c .before .before in
+    begins-with-a-number _ _ (words .film-words .ensures) 15 (film-sized _ (words .before .before .before .before .before .extract .result))
 
 same-length : tie.Need-same-length
 same-length c = search needs
@@ -56,14 +54,17 @@ same-length-3 c = search needs
 
 returns-2 : tie.Need-returns-2
 returns-2 c =
-    let a = c .before .before .before .before .before .before .before .before .before .before .before .before .before .before .before .before .before .before .before .before .before .before .args in
-    let sized = film-size (length (a .fallback .now)) (answerOn (a .container .now) (a .audio) (a .video .now) (a .sound .now)) in
-    let room = c .before .before .before .before .before .before .before .before .before .before .before .before .before .before .before .before .if1 .left in
-    let done = rw (c .before .before .before .before .before .before .before .before .before .before .before .before .before .before .before .reading-by .ensures, c .before .before .before .before .before .before .before .before .before .before .before .before .before .before .key-by .ensures) at (c .before .before .before .before .before .before .before .before .before .before .before .extract .ensures) in (
-      c .film-number .ensures ∙ ap filmNumber (done .0) ∙ given-long _ _ 16 sized _ room,
-      put-as _ _ 16 sized _ _ (c .before .before .before .before .before .before .film-words .ensures ∙ ap (filmWords (length (a .fallback .now))) (done .0)) (c .before .before .before .put .ensures) room,
-      done .1 ∙ ap (λ (e : Extracted). leftBy e (a .video .now) (videoOf (a .container .now) (keyBy (a .keyed) (a .key)) (filmOf (a .container .now) (readingBy (a .audio))))) (done .0) ∙ long _ _ 16 sized _ _ room,
-      done .2 ∙ ap (λ (e : Extracted). leftBy e (a .sound .now) (audioOf (a .container .now) (keyBy (a .keyed) (a .key)) (filmOf (a .container .now) (readingBy (a .audio))))) (done .0) ∙ long _ _ 16 sized _ _ room,
+    let words = c .before .before .before .before .before in
+    let extracted = words .before .before .before .before .before in
+    let keyed = extracted .before .before .before in
+    let room = keyed .before .before in
+    let a = room .before .before .before .before .before .before .args in
+    let sized = film-sized (length (a .fallback .now)) (extractedOf (a .container .now) (readingBy (a .audio)) (a .video .now) (a .sound .now)) in
+    let enough : length (wordsOn (a .container .now) (readingBy (a .audio)) (a .fallback .now) (a .video .now) (a .sound .now)) ≤ length (a .report .now) = omega (arith, room .if1 .left, sized .0) in
+    let done = rw (keyed .before .reading-by .ensures, keyed .key-by .ensures) at (extracted .extract .ensures) in (
+      as-wanted _ _ (words .film-words .ensures ∙ ap (filmWords (length (a .fallback .now))) (done .0)) _ _ _ (c .before .before .answer-by .ensures),
+      done .1 ∙ ap (λ (e : Extracted). leftBy e (a .video .now) (videoOf (a .container .now) (keyBy (a .keyed) (a .key)) (filmOf (a .container .now) (readingBy (a .audio))))) (done .0) ∙ long _ _ _ _ enough,
+      done .2 ∙ ap (λ (e : Extracted). leftBy e (a .sound .now) (audioOf (a .container .now) (keyBy (a .keyed) (a .key)) (filmOf (a .container .now) (readingBy (a .audio))))) (done .0) ∙ long _ _ _ _ enough,
     )
 
 pub usm-extract-spec : {M : Type 1} → statement M
@@ -75,9 +76,8 @@ usm-extract-spec =
     key-by-requires
     extract-requires
     film-words-requires
-    slice-aggregate-put
-    put-requires
-    film-number-requires
+    slice-aggregate-answer-by
+    answer-by-requires
     same-length
     same-length-2
     same-length-3

@@ -32,8 +32,8 @@ use denote.RattleType.{owns}
 use denote.Shadow.{pureI}
 use denote.Laws.{Is, shows}
 use denote.Memory.{pointee}
-use denote.Plain.{uint-makes, uint-vals, uint-tells, bool-makes}
-use denote.Builtin.{u8, usize, bool}
+use denote.Plain.{uint-makes, uint-vals, uint-tells}
+use denote.Builtin.{u8, usize}
 use denote.Ref.{RefT, now}
 use denote.Slice.{sliceTy, sliceVal, ShrSlice, MutSlice, Room, heres, codedHoleys, at-slice, slice-vals, mut-slice-tells, shr-slice-tells, shr-slice-copy}
 use denote.Lend.{Held}
@@ -50,12 +50,15 @@ use denote.Triple.Clauses.{ensured, lasts}
 use denote.Triple.Walked.{says, Stays, stay-slice, stay-none, stay-none-slice, walkOf, goes-slice, goes-none, goes-none-slice, Walks, ends-at, walked, walk-meets}
 use denote.Exit.{yes}
 use Rattle.laws.proofs.Side.{side}
+use Rattle.reading.specs.declared.Reading.{Reading}
 use Rattle.reading.specs.Choices.{readingBy}
+use Rattle.reading.proofs.Reading as R
+use Rattle.reading.proofs.Reading.Laws as R′
 use Rattle.film.specs.Films.{filmOf}
 use Rattle.list.specs.declared.ChunkRecord.{ChunkRecord}
 use Rattle.list.specs.declared.RecordStep.{RecordStep}
 use Rattle.list.specs.declared.Plan.{Plan}
-use Rattle.list.specs.Listing.{filledBy}
+use Rattle.list.specs.Listing.{listedOf, recordsOf, filledBy}
 use Rattle.list.specs.Filling.{stepAt}
 use Rattle.list.proofs.FillLaws.{fillBy, Stored, begins, turned, ended, planned, plan-few, plan-leaves}
 use Rattle.list.proofs.Plan as P
@@ -116,17 +119,20 @@ module _ {M : Type 1} (𝓤 : URA M) (H : Heap 𝓤) (A : Atoms 𝓤) (W : Given
   Post = walkOf 𝓤 H A f.ended stayed (f.clauses 𝓤 H A mem run) .post (((κ, (κ′, tt)), (q, (q′, tt)), tt, a, vals), tt)
 
   -- ---- what the callees are passed, and what they say
-  abbrev to : Bool → ℕ → RecordAt 𝓤 H A mem run .Ghost
-  to taken place = (((κ, tt), (q, tt), tt, (container, (place, (taken, tt))), (cv ∷ [], (vint w64 place ∷ [], (vbool taken ∷ [], tt)))), tt)
+  abbrev rv : Reading → Val
+  rv = LL.val R.the-type R′.the-laws
 
-  asked : (taken : Bool) (place : ℕ) → place < 2 ^ 64 → ent 𝓤 (⋆ 𝓤 H A ((‵ (flft κ q) ⊛ ‵ ftrue) ∷ ‵ Own ∷ [])) (RecordAt 𝓤 H A mem run .pre (to taken place))
-  asked taken place fits =
-      qed W ((‵ (flft κ q) ⊛ ‵ ftrue) ∷ ‵ Own ∷ []) ∵ move ! (1 ∷ []) $ nothing ! $ owned ! bool (Is bool) (bool-makes 𝓤 H A W) taken _ refl $ fjoin ! $ owned ! usize (Is usize) (uint-makes 𝓤 H A W w64) place _ (refl, fits) $ fjoin ! $
+  abbrev to : Reading → ℕ → RecordAt 𝓤 H A mem run .Ghost
+  to reading place = (((κ, tt), (q, tt), tt, (container, (place, (reading, tt))), (cv ∷ [], (vint w64 place ∷ [], (rv reading ∷ [], tt)))), tt)
+
+  asked : (reading : Reading) (place : ℕ) → Is R.the-row reading (rv reading ∷ []) → place < 2 ^ 64 → ent 𝓤 (⋆ 𝓤 H A ((‵ (flft κ q) ⊛ ‵ ftrue) ∷ ‵ Own ∷ [])) (RecordAt 𝓤 H A mem run .pre (to reading place))
+  asked reading place reading-is fits =
+      qed W ((‵ (flft κ q) ⊛ ‵ ftrue) ∷ ‵ Own ∷ []) ∵ move ! (1 ∷ []) $ nothing ! $ owned ! R.the-row (Is R.the-row) ((LL.makes R.the-type R′.the-plain) 𝓤 H A) reading _ reading-is $ fjoin ! $ owned ! usize (Is usize) (uint-makes 𝓤 H A W w64) place _ (refl, fits) $ fjoin ! $
       move ! (1 ∷ 0 ∷ []) $ fjoin ! $ move ! (1 ∷ 0 ∷ []) $ join ! $ frame ! $ done !
 
-  said : (taken : Bool) (place : ℕ) (r : RecordStep)
-      → ent 𝓤 (ensured 𝓤 H A step.ended (step.clauses 𝓤 H A mem run) (κ, tt) (container, (place, (taken, tt))) tt r) (fact 𝓤 (r ≡ stepAt (now container) taken place))
-  said taken place r = exE 𝓤 _ (λ ws. snd∗ 𝓤 (sem 𝓤 H A (lasts step.ended (κ, tt) (container, (place, (taken, tt))) ws)) (fact 𝓤 (r ≡ stepAt (now container) taken place)))
+  said : (reading : Reading) (place : ℕ) (r : RecordStep)
+      → ent 𝓤 (ensured 𝓤 H A step.ended (step.clauses 𝓤 H A mem run) (κ, tt) (container, (place, (reading, tt))) tt r) (fact 𝓤 (r ≡ stepAt (now container) reading place))
+  said reading place r = exE 𝓤 _ (λ ws. snd∗ 𝓤 (sem 𝓤 H A (lasts step.ended (κ, tt) (container, (place, (reading, tt))) ws)) (fact 𝓤 (r ≡ stepAt (now container) reading place)))
 
   abbrev to-plan : ListPlan 𝓤 H A mem run .Ghost
   to-plan = (((κ, tt), (q, tt), tt, (container, (audio, (length list, tt))), (cv ∷ [], (vint w8 audio ∷ [], (vint w64 (length list) ∷ [], tt)))), tt)
@@ -156,7 +162,7 @@ module _ {M : Type 1} (𝓤 : URA M) (H : Heap 𝓤) (A : Atoms 𝓤) (W : Given
     few : n ≤ length list
     few = rw e₀ (plan-few (now container) (readingBy audio) list)
 
-    leaves-list : (t : St) → n ≤ t .filled → t .now ≡ filledBy (filmOf (now container) (readingBy audio)) list
+    leaves-list : (t : St) → n ≤ t .filled → t .now ≡ filledBy (listedOf (now container) (readingBy audio) (length list)) list (recordsOf (filmOf (now container) (readingBy audio)))
     leaves-list t over = ended (now container) p list t over ∙ ap (λ (k : Plan). fillBy (now container) k list) e₀ ∙ plan-leaves (now container) (readingBy audio) list
 
     -- ---- the exit
@@ -205,6 +211,9 @@ module _ {M : Type 1} (𝓤 : URA M) (H : Heap 𝓤) (A : Atoms 𝓤) (W : Given
       start-fits : Fits w64 (p .start)
       start-fits = record { fits = LL.owed P.the-type P′.the-laws p (pv ∷ []) plan-is .1 .1 .0 .1 }
 
+      reading-is : Is R.the-row (p .reading) (rv (p .reading) ∷ [])
+      reading-is = LL.owed P.the-type P′.the-laws p (pv ∷ []) plan-is .1 .1 .1 .0
+
       abbrev En : Env 𝓤 H
       En = (byte, l₀) ∷ (bytes, l₁) ∷ (byte, l₂) ∷ (records, l₃) ∷ (P′.mir, l₄) ∷ (word, l₅) ∷ (word, l₆) ∷ (S′.mir, l₇) ∷ (word, l₈) ∷ (tyBool, l₉) ∷ (word, l₁₀) ∷ (tyPtr, l₁₁) ∷ []
 
@@ -231,10 +240,10 @@ module _ {M : Type 1} (𝓤 : URA M) (H : Heap 𝓤) (A : Atoms 𝓤) (W : Given
           let next-fits : Fits w64 (t .filled + 1) = omega (arith, room .0, few) in
           -- the call
           move ! (2 ∷ []) $ use1 W (‵ Own ⊛ ‵ Own) (shr-slice-copy 𝓤 H A W (named 0) κ u8 .twice container (cv ∷ [])) $ split ! $ move ! (3 ∷ 0 ∷ []) $
-          use2 W (raw (RecordAt 𝓤 H A mem run .pre (to (p .heard) (t .place)))) (asked (p .heard) (t .place) (t .fits)) $
-          calls-at ! (fmOf 𝓤 H (W .laws) 𝓣) (RecordAt 𝓤 H A mem run) known (to (p .heard) (t .place)) (and-then ! (load ! (from ! (stop !)) (look ! 23 refl)) (and-then ! (load ! (from ! (stop !)) (look ! 15 refl)) (and-then ! (load ! (from ! (fld ! refl (stop !))) (look-in ! 17 (sub ! 3 refl (whole !)))) (no-more !)))) (λ u.
-          use1 W (later (some (λ (r : RecordStep). ((‵ (flft κ q) ⊛ ‵ ftrue) ⊛ ‵ (S.the-row .own r (u ∷ []))) ⊛ raw (ensured 𝓤 H A step.ended (step.clauses 𝓤 H A mem run) (κ, tt) (container, (t .place, (p .heard, tt))) tt r)))) (id⊢ 𝓤 _) $ await ! tt $ pick ! (λ r.
-          split ! $ move ! (1 ∷ []) $ use1 W (raw (fact 𝓤 (r ≡ stepAt (now container) (p .heard) (t .place)))) (said (p .heard) (t .place) r) $ heard ! (r ≡ stepAt (now container) (p .heard) (t .place)) (λ e. split ! $ move ! (1 ∷ []) $
+          use2 W (raw (RecordAt 𝓤 H A mem run .pre (to (p .reading) (t .place)))) (asked (p .reading) (t .place) reading-is (t .fits)) $
+          calls-at ! (fmOf 𝓤 H (W .laws) 𝓣) (RecordAt 𝓤 H A mem run) known (to (p .reading) (t .place)) (and-then ! (load ! (from ! (stop !)) (look ! 23 refl)) (and-then ! (load ! (from ! (stop !)) (look ! 15 refl)) (and-then ! (load ! (from ! (fld ! refl (stop !))) (look-in ! 17 (sub ! 3 refl (whole !)))) (no-more !)))) (λ u.
+          use1 W (later (some (λ (r : RecordStep). ((‵ (flft κ q) ⊛ ‵ ftrue) ⊛ ‵ (S.the-row .own r (u ∷ []))) ⊛ raw (ensured 𝓤 H A step.ended (step.clauses 𝓤 H A mem run) (κ, tt) (container, (t .place, (p .reading, tt))) tt r)))) (id⊢ 𝓤 _) $ await ! tt $ pick ! (λ r.
+          split ! $ move ! (1 ∷ []) $ use1 W (raw (fact 𝓤 (r ≡ stepAt (now container) (p .reading) (t .place)))) (said (p .reading) (t .place) r) $ heard ! (r ≡ stepAt (now container) (p .reading) (t .place)) (λ e. split ! $ move ! (1 ∷ []) $
           peeks ! S.the-row (Is S.the-row) (shows 𝓤 H A S.the-row) r (u ∷ []) (λ is.
           let made-is = LL.owed S.the-type S′.the-laws r (u ∷ []) is .0 in
           let next-is : Fits w64 (r .next) = record { fits = LL.owed S.the-type S′.the-laws r (u ∷ []) is .1 .0 .1 } in

@@ -1,18 +1,11 @@
 -- `usm::usm_table` meets its contract, by those of the answer and of its words. Assumes nothing.
 use mathlib.Core.Path.{ap, _∙_}
-use Rattle.table.specs.Tables.{tableAt}
-use Rattle.report.specs.TableWords.{tableNumber, tableWords}
-use Rattle.report.proofs.WordLaws.{table-size}
-use Rattle.usm.proofs.ReportLaws.{given-short, given-long, stays, put-as}
+use Rattle.usm.proofs.ReportLaws.{begins-with-a-number, as-wanted}
+use Rattle.report.specs.TableWords.{tableWords}
+use Rattle.report.proofs.WordLaws.{table-sized}
 use borrow.Author.Needs.{needs}
 use Rattle.usm.proofs.usm_table.Statement.{statement}
 use Rattle.usm.proofs.usm_table.Tie as tie
-
-returns : tie.Need-returns
-returns c =
-    let a = c .before .before .before .args in
-    let sized = table-size (tableAt (a .bytes .now) (a .place)) in
-    (given-short _ _ 5 sized _ (c .if1 .taken), stays _ _ 5 sized (c .if1 .taken))
 
 read-table-requires : tie.Need-read-table-requires
 read-table-requires c κs = search needs
@@ -20,37 +13,21 @@ read-table-requires c κs = search needs
 table-words-requires : tie.Need-table-words-requires
 table-words-requires c κs = search needs
 
-slice-aggregate-put : tie.Need-slice-aggregate-put
-slice-aggregate-put c = search needs
+slice-aggregate-answer-by : tie.Need-slice-aggregate-answer-by
+slice-aggregate-answer-by c = search needs
 
-put-requires : tie.Need-put-requires
-put-requires c κs = search needs
-
-table-number-requires : tie.Need-table-number-requires
-table-number-requires c κs = search needs
+answer-by-requires : tie.Need-answer-by-requires
+answer-by-requires c κs =
+    let words = c .before .before in
+    begins-with-a-number _ _ (words .table-words .ensures) 4 (table-sized (words .before .read-table .result))
 
 same-length : tie.Need-same-length
 same-length c = search needs
 
-returns-2 : tie.Need-returns-2
-returns-2 c =
-    let a = c .before .before .before .before .before .before .before .before .before .before .before .args in
-    let sized = table-size (tableAt (a .bytes .now) (a .place)) in
-    let answer = c .before .before .before .before .before .before .before .read-table .ensures in
-    let room = c .before .before .before .before .before .before .before .before .if1 .left in (
-      c .table-number .ensures ∙ ap tableNumber answer ∙ given-long _ _ 5 sized _ room,
-      put-as _ _ 5 sized _ _ (c .before .before .before .before .before .before .table-words .ensures ∙ ap tableWords answer) (c .before .before .before .put .ensures) room,
-    )
+returns : tie.Need-returns
+returns c =
+    let words = c .before .before .before .before .before in
+    as-wanted _ _ (words .table-words .ensures ∙ ap tableWords (words .before .read-table .ensures)) _ _ _ (c .before .before .answer-by .ensures)
 
 pub usm-table-spec : {M : Type 1} → statement M
-usm-table-spec =
-    tie.close
-    (tie.spec
-    returns
-    read-table-requires
-    table-words-requires
-    slice-aggregate-put
-    put-requires
-    table-number-requires
-    same-length
-    returns-2)
+usm-table-spec = tie.close (tie.spec read-table-requires table-words-requires slice-aggregate-answer-by answer-by-requires same-length returns)

@@ -1,7 +1,7 @@
--- `lookup::rows_at` meets its contract. Assumes nothing.
+-- `table::rows_at` meets its contract. Assumes nothing.
 use borrow.Author.Tests.{lt-ltb, le-ltb}
-use Rattle.lookup.proofs.rows_at.Statement.{statement}
-use Rattle.lookup.proofs.rows_at.Tie as tie
+use Rattle.table.proofs.rows_at.Statement.{statement}
+use Rattle.table.proofs.rows_at.Tie as tie
 
 returns : tie.Need-returns
 returns c = rw (lt-ltb _ _ (c .if1 .taken))
