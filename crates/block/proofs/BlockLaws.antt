@@ -10,7 +10,7 @@ use borrow.Author.Tests.{eq-eqb, ne-eqb, lt-ltb, le-ltb, ltb-false}
 use Rattle.word.specs.Numbers.{be32}
 use Rattle.refusal.specs.declared.Cause.{Cause}
 use Rattle.refusal.specs.declared.Cause.the-variants as cause
-use Rattle.letters.specs.Letters.{SFV, SFA, metadataEnd, standsAt}
+use Rattle.signature.specs.Signatures.{SFV, SFA, metadataEnd, standsAt}
 use Rattle.block.specs.declared.BlockAnswer.{BlockAnswer}
 use Rattle.block.specs.declared.BlockAnswer.the-variants.{Next}
 use Rattle.block.specs.declared.Ahead.the-variants.{Sound, Other, Cut}

@@ -7,8 +7,8 @@ use lib.Dec.{ltb, eqb}
 use Rattle.word.specs.Numbers.{be32}
 use Rattle.refusal.specs.declared.Cause.{Cause}
 use Rattle.refusal.specs.declared.Cause.the-variants as cause
-use Rattle.letters.specs.Letters.{CRID, SFV, SFA, metadataEnd, standsAt}
-use Rattle.part.specs.Parts.{nameIn}
+use Rattle.signature.specs.Signatures.{CRID, SFV, SFA, metadataEnd, standsAt}
+use Rattle.film_name.specs.Names.{nameIn}
 use Rattle.codec.specs.Codecs.{codecOf}
 use Rattle.table.specs.declared.TableAnswer.{TableAnswer}
 use Rattle.table.specs.declared.TableAnswer.the-variants as table

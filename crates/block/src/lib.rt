@@ -8,8 +8,8 @@ ghost use Rattle.table.specs.Tables.{tableAt};
 ghost use Rattle.lookup.specs.Lookups.{cellOf, lastCellOf};
 ghost use Rattle.block.specs.Blocks.{filename, refusedAt, headAt, markedAt, tabled, coded, named, markerBlock, tableBlock, codecBlock, nameBlock, aheadAt, chunksAfter, lastBlock};
 use codec::Codec;
+use film_name::Name;
 use lookup::Lookup;
-use part::Name;
 use refusal::Cause;
 use refusal::Refusal;
 use table::TableAnswer;
@@ -54,7 +54,7 @@ fn head_at(bytes: &[u8], letters: usize, missing: Cause, place: usize) -> BlockA
     ensures { λ r. ⌜ r ≡ headAt (now (bytes .entry)) letters missing place ⌝ }
 {
     let left = word::left_from(bytes, place);
-    if left < letters::LETTERS {
+    if left < signature::LETTERS {
         return refused(Cause::RanOut, place);
     }
     if word::read32(bytes, place) != letters {
@@ -63,17 +63,17 @@ fn head_at(bytes: &[u8], letters: usize, missing: Cause, place: usize) -> BlockA
     if left < HEAD {
         return refused(Cause::RanOut, place);
     }
-    BlockAnswer::Next(place + HEAD + word::read32(bytes, place + letters::LETTERS))
+    BlockAnswer::Next(place + HEAD + word::read32(bytes, place + signature::LETTERS))
 }
 
 // The marker of the block at a place. Another is refused as `unmarked`.
 fn marked_at(bytes: &[u8], marker: &[u8], unmarked: Cause, place: usize, next: usize) -> BlockAnswer
     ensures { λ r. ⌜ r ≡ markedAt (now (bytes .entry)) (now (marker .entry)) unmarked place next ⌝ }
 {
-    if word::left_from(bytes, place) < letters::INSIDE + marker.len() {
+    if word::left_from(bytes, place) < signature::INSIDE + marker.len() {
         return refused(Cause::RanOut, place);
     }
-    if letters::stands_at(marker, bytes, place + letters::INSIDE) {
+    if signature::stands_at(marker, bytes, place + signature::INSIDE) {
         return BlockAnswer::Next(next);
     }
     refused(unmarked, place)
@@ -84,7 +84,7 @@ fn table_at(bytes: &[u8], place: usize, next: usize) -> BlockAnswer
     requires { ⌜ place + 8 ≤ length (now bytes) ⌝ }
     ensures { λ r. ⌜ r ≡ tabled place next (tableAt (now (bytes .entry)) (place + 0x20)) ⌝ }
 {
-    match table::read_table(bytes, place + letters::INSIDE) {
+    match table::read_table(bytes, place + signature::INSIDE) {
         TableAnswer::Table {
             columns: _,
             rows: _,
@@ -101,7 +101,7 @@ fn codec_at(bytes: &[u8], column: &[u8], place: usize, next: usize) -> CodecBloc
     requires { ⌜ place + 8 ≤ length (now bytes) ⌝ }
     ensures { λ r. ⌜ r ≡ coded place next (cellOf (now (bytes .entry)) (place + 0x20) (now (column .entry)) 0) ⌝ }
 {
-    match lookup::cell_of(bytes, place + letters::INSIDE, column, 0) {
+    match lookup::cell_of(bytes, place + signature::INSIDE, column, 0) {
         Lookup::Holds(cell) => CodecBlock::Coded {
             codec: codec::codec_of(cell),
             next,
@@ -117,9 +117,9 @@ fn codec_at(bytes: &[u8], column: &[u8], place: usize, next: usize) -> CodecBloc
 fn name_at(bytes: &[u8], next: usize) -> NameBlock
     ensures { λ r. ⌜ r ≡ named 0 next (lastCellOf (now (bytes .entry)) 0x20 filename) ⌝ }
 {
-    match lookup::last_cell_of(bytes, letters::INSIDE, b"filename") {
+    match lookup::last_cell_of(bytes, signature::INSIDE, b"filename") {
         Lookup::Holds(cell) => NameBlock::Named {
-            name: part::name_in(cell),
+            name: film_name::name_in(cell),
             next,
         },
         Lookup::NoTable(refusal) => {
@@ -176,7 +176,7 @@ pub fn codec_block(
 pub fn name_block(bytes: &[u8]) -> NameBlock
     ensures { λ r. ⌜ r ≡ nameBlock (now (bytes .entry)) ⌝ }
 {
-    match head_at(bytes, letters::CRID, Cause::NoFilm, 0) {
+    match head_at(bytes, signature::CRID, Cause::NoFilm, 0) {
         BlockAnswer::Next(next) => name_at(bytes, next),
         BlockAnswer::NoBlock(refusal) => NameBlock::NoName(refusal),
     }
@@ -186,10 +186,10 @@ pub fn name_block(bytes: &[u8]) -> NameBlock
 pub fn ahead_at(bytes: &[u8], place: usize) -> Ahead
     ensures { λ r. ⌜ r ≡ aheadAt (now (bytes .entry)) place ⌝ }
 {
-    if word::left_from(bytes, place) < letters::LETTERS {
+    if word::left_from(bytes, place) < signature::LETTERS {
         return Ahead::Cut;
     }
-    if word::read32(bytes, place) == letters::SFA {
+    if word::read32(bytes, place) == signature::SFA {
         return Ahead::Sound;
     }
     Ahead::Other
@@ -207,10 +207,10 @@ fn chunks_after(place: usize) -> usize
 pub fn last_block(bytes: &[u8], place: usize) -> BlockAnswer
     ensures { λ r. ⌜ r ≡ lastBlock (now (bytes .entry)) place ⌝ }
 {
-    if word::left_from(bytes, place) < letters::LETTERS {
+    if word::left_from(bytes, place) < signature::LETTERS {
         return refused(Cause::RanOut, place);
     }
-    if word::read32(bytes, place) != letters::SFV {
+    if word::read32(bytes, place) != signature::SFV {
         return refused(Cause::NoVideo, place);
     }
     let chunks = chunks_after(place);

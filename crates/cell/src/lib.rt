@@ -8,6 +8,7 @@ ghost use Rattle.cell.specs.Types.{kindOf, widthOf};
 ghost use Rattle.cell.specs.Parts.{zeroFrom, endOf, textAt, dataAt};
 ghost use Rattle.cell.specs.Cells.{signedOf, bitsOf, floatCell, valueAt, cellAt};
 ghost use Rattle.cell.specs.CellNumbers.{caseOf, valueOf, lengthOf};
+ghost use Rattle.cell.specs.CellParts.{startOf, PartOf};
 use refusal::Cause;
 
 // What a cell holds. A float whose bits are a NaN's keeps its bits. Parts are parts of the table's body.
@@ -226,8 +227,23 @@ pub fn value_of(cell: Cell) -> u64
     }
 }
 
-// How long a cell's part is.
-pub fn length_of(cell: Cell) -> u64
+// Where a cell's part starts, 0 where it has none.
+fn start_of(cell: Cell) -> usize
+    ensures { λ r. ⌜ r ≡ startOf cell ⌝ }
+{
+    match cell {
+        Cell::Nothing => 0,
+        Cell::Unsigned(_) => 0,
+        Cell::Signed(_) => 0,
+        Cell::Float(_) => 0,
+        Cell::NotANumber(_) => 0,
+        Cell::Text { start, len: _ } => start,
+        Cell::Data { start, len: _ } => start,
+    }
+}
+
+// How long a cell's part is, 0 where it has none.
+pub fn length_of(cell: Cell) -> usize
     ensures { λ r. ⌜ r ≡ lengthOf cell ⌝ }
 {
     match cell {
@@ -236,7 +252,14 @@ pub fn length_of(cell: Cell) -> u64
         Cell::Signed(_) => 0,
         Cell::Float(_) => 0,
         Cell::NotANumber(_) => 0,
-        Cell::Text { start: _, len } => len as u64,
-        Cell::Data { start: _, len } => len as u64,
+        Cell::Text { start: _, len } => len,
+        Cell::Data { start: _, len } => len,
     }
+}
+
+// The bytes of a string or data cell, a part of the slice that holds the table; the empty part at byte 0 for any other cell.
+pub fn part_of(bytes: &[u8], cell: Cell) -> &[u8]
+    ensures { λ r. ⌜ PartOf (bytes .entry) cell r ⌝ }
+{
+    part::part_at(bytes, start_of(cell), length_of(cell))
 }

@@ -10,7 +10,7 @@ use Rattle.laws.specs.Lists.{at}
 use Rattle.word.specs.Numbers.{be32}
 use Rattle.refusal.specs.declared.Cause.the-variants.{RanOut, TooSmall}
 use Rattle.reading.specs.declared.Reading.{Reading}
-use Rattle.letters.specs.Letters.{SFV, SFA, contentsEnd, standsAt}
+use Rattle.signature.specs.Signatures.{SFV, SFA, contentsEnd, standsAt}
 use Rattle.chunk.specs.declared.Kind.{Kind}
 use Rattle.chunk.specs.declared.Kind.the-variants.{Video, Audio, Other, End}
 use Rattle.chunk.specs.declared.ChunkStep.the-variants.{Over, Found}
@@ -38,7 +38,7 @@ module _ (container : List ℕ) (c : ℕ) where
 
 -- the fields as they were read
 pub read-so : (container : List ℕ) (c n : ℕ) (kind : Kind) (byte block : ℕ) → kind ≡ kindAt container c → byte ≡ at container (c + 15) → block ≡ be32 container (c + 4)
-    → record { start = c; kind = kind; tag = byte % 4; len = n; next = c + 8 + block } ≡ chunkOf container c n
+    → record { start = c; kind = kind; «data_type» = byte % 4; len = n; next = c + 8 + block } ≡ chunkOf container c n
 unfolding chunkOf
 read-so container c n kind byte block e f g = cc
 

@@ -20,7 +20,7 @@ use Rattle.chunk.specs.Chunks.{kindAt, isTaken, spareAt, chunkOf, refuse
 pub record Within (container : List ℕ) (c : ℕ) (chunk : Chunk) : Type 0 where
   pub whole : 45 ≤ length container - c
   pub start : chunk .start ≡ c
-  pub typed : chunk .tag < 4
+  pub typed : chunk .«data_type» < 4
   pub inside : 0x20 + chunk .len ≤ length container - c
   pub past : c + 8 + chunk .len ≤ chunk .next
 

@@ -9,7 +9,7 @@ use borrow.Author.Tests.{le-leb}
 use Rattle.laws.specs.Lists.{at}
 use Rattle.word.specs.Numbers.{be16, be32}
 use Rattle.part.specs.Parts.{partAt}
-use Rattle.letters.specs.Letters.{contentsEnd, sameBytes, standsAt}
+use Rattle.signature.specs.Signatures.{contentsEnd, sameBytes, standsAt}
 use Rattle.chunk.specs.Chunks.{spareAt}
 use Rattle.chunk.specs.Openings.{openingAt}
 

@@ -11,7 +11,7 @@ use Rattle.refusal.specs.declared.Cause.the-variants.{RanOut, TooSmall}
 use Rattle.reading.specs.declared.Reading.{Reading}
 use Rattle.reading.specs.Choices.{isChosen}
 use Rattle.part.specs.Parts.{partAt}
-use Rattle.letters.specs.Letters.{SFV, SFA, contentsEnd, standsAt}
+use Rattle.signature.specs.Signatures.{SFV, SFA, contentsEnd, standsAt}
 use Rattle.chunk.specs.declared.Kind.{Kind}
 use Rattle.chunk.specs.declared.Kind.the-variants.{Video, Audio, Other, End}
 use Rattle.chunk.specs.declared.Chunk.{Chunk}
@@ -45,7 +45,7 @@ spareAt container c = be16 container (c + 8) + be16 container (c + 10)
 
 -- "Block size u32 at 4, .. data type = byte 15 mod 4, next at c + 8 + block size." n is the payload's length
 unfoldable pub chunkOf : List ℕ → ℕ → ℕ → Chunk
-chunkOf container c n = record { start = c; kind = kindAt container c; tag = at container (c + 15) % 4; len = n; next = c + 8 + be32 container (c + 4) }
+chunkOf container c n = record { start = c; kind = kindAt container c; «data_type» = at container (c + 15) % 4; len = n; next = c + 8 + be32 container (c + 4) }
 
 -- "the start of the block being read"
 abbrev pub refusedAt : ℕ → Cause → ChunkStep

@@ -21,7 +21,7 @@ pub enum Kind {
 pub struct Chunk {
     pub start: usize,
     pub kind: Kind,
-    pub tag: u8,
+    pub data_type: u8,
     pub len: usize,
     pub next: usize,
 }
@@ -63,14 +63,14 @@ fn kind_at(container: &[u8], place: usize) -> Kind
     ensures { λ r. ⌜ r ≡ kindAt (now (container .entry)) place ⌝ }
 {
     let opening = opening_at(container, place);
-    if letters::stands_at(b"#CONTENTS END", opening, letters::INSIDE) {
+    if signature::stands_at(b"#CONTENTS END", opening, signature::INSIDE) {
         return Kind::End;
     }
     let name = word::read32(opening, 0);
-    if name == letters::SFV {
+    if name == signature::SFV {
         return Kind::Video;
     }
-    if name == letters::SFA {
+    if name == signature::SFA {
         return Kind::Audio;
     }
     Kind::Other
@@ -97,12 +97,12 @@ fn chunk_of(container: &[u8], place: usize, kind: Kind, len: usize) -> Chunk
     ensures { λ r. ⌜ r ≡ chunkOf (now (container .entry)) place len ⌝ }
 {
     let opening = opening_at(container, place);
-    let tag = opening[15] % 4;
+    let data_type = opening[15] % 4;
     let next = place + 8 + word::read32(opening, 4);
     Chunk {
         start: place,
         kind,
-        tag,
+        data_type,
         len,
         next,
     }
@@ -127,7 +127,7 @@ fn taken_at(container: &[u8], place: usize, kind: Kind) -> ChunkStep
         return refused(Cause::TooSmall, place);
     }
     let len = block - spare;
-    if word::left_from(container, place + letters::INSIDE) < len {
+    if word::left_from(container, place + signature::INSIDE) < len {
         return refused(Cause::RanOut, place);
     }
     ChunkStep::Found(chunk_of(container, place, kind, len))
@@ -139,7 +139,7 @@ pub fn chunk_at(container: &[u8], place: usize, reading: Reading) -> ChunkStep
     ensures { λ r. ⌜ r ≡ chunkAt (now (container .entry)) reading place ⌝ }
 {
     let left = word::left_from(container, place);
-    if left < letters::LETTERS {
+    if left < signature::LETTERS {
         return ChunkStep::Over;
     }
     if left < OPENING {
@@ -157,10 +157,10 @@ pub fn payload_of(container: &[u8], chunk: Chunk) -> &[u8]
     ensures { λ r. ⌜ now r ≡ payloadOf (now (container .entry)) chunk ⌝ }
 {
     let start = chunk.start;
-    if word::left_from(container, start) < letters::INSIDE {
+    if word::left_from(container, start) < signature::INSIDE {
         return &container[0..0];
     }
-    part::part_at(container, start + letters::INSIDE, chunk.len)
+    part::part_at(container, start + signature::INSIDE, chunk.len)
 }
 
 // The payload of the chunk at a place: empty where the chunk is skipped or refused, or the chunks end.

@@ -14,9 +14,9 @@ use Rattle.reading.specs.declared.Reading.{Reading}
 use Rattle.reading.specs.Choices.{appliedTo}
 use Rattle.chunk.specs.declared.Chunk.{Chunk}
 use Rattle.walk.specs.Walks.{walkFrom, videoSize, audioSize}
-use Rattle.clear.specs.declared.Key.{Key}
-use Rattle.clear.specs.declared.Unmasking.{Unmasking}
-use Rattle.clear.specs.Unmasking.{unmaskingOf}
+use Rattle.unmasking.specs.declared.Key.{Key}
+use Rattle.unmasking.specs.declared.Unmasking.{Unmasking}
+use Rattle.unmasking.specs.Unmasking.{unmaskingOf}
 use Rattle.header.specs.declared.Header.{Header}
 use Rattle.film.specs.Films.{film, filmOf, surveyOf}
 use Rattle.film.specs.declared.Surveyed.the-variants as survey

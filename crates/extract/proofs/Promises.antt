@@ -23,9 +23,9 @@ use Rattle.mask.specs.Promises.{apart}
 use Rattle.mask.proofs.Promises.{ShortVideoStays, VideoDiffersByD, AudioDiffersByD}
 use Rattle.chunk.specs.Chunks.{payloadOf}
 use Rattle.walk.proofs.Promises.{SizesFitWhatIsLeft}
-use Rattle.clear.specs.declared.Key.the-variants.{Given}
-use Rattle.clear.specs.declared.Unmasking.{Unmasking}
-use Rattle.clear.specs.Unmasking.{isAdx, unmaskingOf}
+use Rattle.unmasking.specs.declared.Key.the-variants.{Given}
+use Rattle.unmasking.specs.declared.Unmasking.{Unmasking}
+use Rattle.unmasking.specs.Unmasking.{isAdx, unmaskingOf}
 use Rattle.film.specs.Films.{Film, film, refused, filmOf, surveyOf}
 use Rattle.extract.specs.declared.Extracted.the-variants as extracted
 use Rattle.extract.specs.Streams.{videoPart, audioPart, videoStream, audioStream}
@@ -118,10 +118,10 @@ VideoDiffersPayloadByPayload container reading key key′ video audio videoAfter
     let payload = videoPart (chunk .kind) (payloadOf container chunk) in
     ap₂ bitXor (video-at container reading header before after chunk f (Given key) video audio videoAfter audioAfter contents e p h)
     (video-at container reading header before after chunk f (Given key′) video audio videoAfter′ audioAfter′ contents′ e′ p h)
-    ∙ video-by key key′ payload p h (eqb (chunk .tag) 0) (leb 0x240 (length payload)) refl
+    ∙ video-by key key′ payload p h (eqb (chunk .«data_type») 0) (leb 0x240 (length payload)) refl
 
 pub AudioDiffersPayloadByPayload : promised.AudioDiffersPayloadByPayload
 AudioDiffersPayloadByPayload container reading key key′ video audio videoAfter audioAfter videoAfter′ audioAfter′ contents contents′ header before after chunk p e e′ f h =
     ap₂ bitXor (audio-at container reading header before after chunk f (Given key) video audio videoAfter audioAfter contents e p h)
     (audio-at container reading header before after chunk f (Given key′) video audio videoAfter′ audioAfter′ contents′ e′ p h)
-    ∙ audio-by key key′ (audioPart (chunk .kind) (payloadOf container chunk)) p h (isAdx (header .«audio_codec») && eqb (chunk .tag) 0)
+    ∙ audio-by key key′ (audioPart (chunk .kind) (payloadOf container chunk)) p h (isAdx (header .«audio_codec») && eqb (chunk .«data_type») 0)

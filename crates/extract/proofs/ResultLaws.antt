@@ -16,9 +16,9 @@ use Rattle.reading.specs.Choices.{appliedTo}
 use Rattle.chunk.specs.declared.Chunk.{Chunk}
 use Rattle.chunk.specs.Chunks.{payloadOf}
 use Rattle.walk.specs.Walks.{walkFrom, sizeOf, videoSize, audioSize}
-use Rattle.clear.specs.declared.Key.{Key}
-use Rattle.clear.specs.declared.Unmasking.{Unmasking}
-use Rattle.clear.specs.Unmasking.{unmaskingOf}
+use Rattle.unmasking.specs.declared.Key.{Key}
+use Rattle.unmasking.specs.declared.Unmasking.{Unmasking}
+use Rattle.unmasking.specs.Unmasking.{unmaskingOf}
 use Rattle.header.specs.declared.Header.{Header}
 use Rattle.film.specs.Films.{film, filmOf, surveyOf}
 use Rattle.extract.specs.declared.Contents.{Contents}
@@ -61,7 +61,7 @@ module _ (stream : Stream) (container : List ℕ) (size : ℕ) (out out′ : Lis
       let piece = pieceOf stream container chunk in
       let rest = joined (pieceOf stream container) after in
       let n : length first ≡ share = front-length stream container reading c before (chunk ∷ after) walked in
-      let k : length piece ≡ length (stream .part (chunk .kind) (payloadOf container chunk)) = stream .keeps (chunk .tag) (stream .part (chunk .kind) (payloadOf container chunk)) in
+      let k : length piece ≡ length (stream .part (chunk .kind) (payloadOf container chunk)) = stream .keeps (chunk .«data_type») (stream .part (chunk .kind) (payloadOf container chunk)) in
       let whole = joined (pieceOf stream container) (before ++ chunk ∷ after) in
       let split : whole ≡ first ++ (piece ++ rest) = joined-append (pieceOf stream container) before (chunk ∷ after) in
       let m : length whole ≡ share + (length piece + length rest) = rw split (simp length-append (omega arith)) in

@@ -20,8 +20,8 @@ use Rattle.chunk.specs.Chunks.{chunkAt, payloadOf}
 use Rattle.chunk.proofs.FoundLaws.{found}
 use Rattle.walk.specs.Walks.{walkFrom, videoIn, audioIn, sizeOf}
 use Rattle.walk.proofs.WalkLaws.{every-walk}
-use Rattle.clear.specs.declared.Unmasking.{Unmasking}
-use Rattle.clear.specs.Unmasking.{isMasked, clearVideo, clearAudio}
+use Rattle.unmasking.specs.declared.Unmasking.{Unmasking}
+use Rattle.unmasking.specs.Unmasking.{isMasked, clearVideo, clearAudio}
 use Rattle.extract.specs.Streams.{videoPart, audioPart, joined}
 
 -- its part of a payload and that part's share of the length, and how it makes a part clear, by the data type
@@ -30,11 +30,11 @@ pub record Stream : Type 0 where
   pub share : Kind → ℕ → ℕ
   pub clear : ℕ → List ℕ → List ℕ
   pub parted : (kind : Kind) (payload : List ℕ) → length (part kind payload) ≡ share kind (length payload)
-  pub keeps : (tag : ℕ) (payload : List ℕ) → length (clear tag payload) ≡ length payload
+  pub keeps : (data-type : ℕ) (payload : List ℕ) → length (clear data-type payload) ≡ length payload
 
 -- what a chunk gives to the stream
 abbrev pub pieceOf : Stream → List ℕ → Chunk → List ℕ
-pieceOf stream container chunk = stream .clear (chunk .tag) (stream .part (chunk .kind) (payloadOf container chunk))
+pieceOf stream container chunk = stream .clear (chunk .«data_type») (stream .part (chunk .kind) (payloadOf container chunk))
 
 -- the stream from a place of the container on
 abbrev pub streamFrom : Stream → List ℕ → Reading → ℕ → List ℕ
@@ -58,13 +58,13 @@ either-length : (t : Bool) (plain payload : List ℕ) → length plain ≡ lengt
 either-length true plain payload e = e
 either-length false plain payload e = refl
 
-pub video-keeps : (by : Unmasking) (tag : ℕ) (payload : List ℕ) → length (clearVideo by tag payload) ≡ length payload
-video-keeps by tag payload =
-    either-length (isMasked (by .video) tag) (unmaskedVideo (by .keys) payload) payload (video-length (by .keys) payload)
+pub video-keeps : (by : Unmasking) (data-type : ℕ) (payload : List ℕ) → length (clearVideo by data-type payload) ≡ length payload
+video-keeps by data-type payload =
+    either-length (isMasked (by .video) data-type) (unmaskedVideo (by .keys) payload) payload (video-length (by .keys) payload)
 
-pub audio-keeps : (by : Unmasking) (tag : ℕ) (payload : List ℕ) → length (clearAudio by tag payload) ≡ length payload
-audio-keeps by tag payload =
-    either-length (isMasked (by .audio) tag) (maskedAudio (by .keys) payload) payload (audio-length (by .keys) payload)
+pub audio-keeps : (by : Unmasking) (data-type : ℕ) (payload : List ℕ) → length (clearAudio by data-type payload) ≡ length payload
+audio-keeps by data-type payload =
+    either-length (isMasked (by .audio) data-type) (maskedAudio (by .keys) payload) payload (audio-length (by .keys) payload)
 
 abbrev pub videoUnder : Unmasking → Stream
 videoUnder by = record { part = videoPart; share = videoIn; clear = clearVideo by; parted = video-parted; keeps = video-keeps by }
@@ -84,7 +84,7 @@ module _ (container : List ℕ) (reading : Reading) (c : ℕ) (chunk : Chunk) (e
 
   piece-length : (stream : Stream) → length (pieceOf stream container chunk) ≡ stream .share (chunk .kind) (chunk .len)
   piece-length stream =
-      stream .keeps (chunk .tag) (stream .part (chunk .kind) (payloadOf container chunk))
+      stream .keeps (chunk .«data_type») (stream .part (chunk .kind) (payloadOf container chunk))
       ∙ stream .parted (chunk .kind) (payloadOf container chunk) ∙ rw payload-length
 
 -- the pieces of two lists of chunks

@@ -39,7 +39,7 @@ module _ (stream : Stream) (container : List ℕ) (reading : Reading) (start : �
     module _ (chunk : Chunk) (e : chunkAt container reading c ≡ Found chunk) (payload part : List ℕ) (is-payload : payload ≡ payloadOf container chunk)
         (is-part : part ≡ stream .part (chunk .kind) payload) where
       -- the part, made clear, and then the rest
-      rest : streamFrom stream container reading c ≡ stream .clear (chunk .tag) part ++ streamFrom stream container reading (chunk .next)
+      rest : streamFrom stream container reading c ≡ stream .clear (chunk .«data_type») part ++ streamFrom stream container reading (chunk .next)
       unfolding joined
       rest = rw (walk-found container reading c chunk e, is-part, is-payload)
 
@@ -50,12 +50,12 @@ module _ (stream : Stream) (container : List ℕ) (reading : Reading) (start : �
       pub room-for : sizeOf (stream .share) (walkFrom container reading start .chunks) ≤ length out₀ → written + length part ≤ length out
       room-for h = omega (arith, long-rest, w .long, stream-length stream container reading start)
 
-      pub one-more-written : (out′ : List ℕ) → out′ ≡ sets out written (stream .clear (chunk .tag) part)
+      pub one-more-written : (out′ : List ℕ) → out′ ≡ sets out written (stream .clear (chunk .«data_type») part)
           → Written stream container reading start (chunk .next) (written + length part) out₀ out′
       one-more-written out′ put =
-          let piece = stream .clear (chunk .tag) part in
+          let piece = stream .clear (chunk .«data_type») part in
           let more = streamFrom stream container reading (chunk .next) in
-          let n : length piece ≡ length part = stream .keeps (chunk .tag) part in
+          let n : length piece ≡ length part = stream .keeps (chunk .«data_type») part in
           record {
             sized = omega (arith, long-rest);
             long = ap length put ∙ length-sets out written piece ∙ w .long;

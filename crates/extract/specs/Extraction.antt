@@ -10,8 +10,8 @@ use Rattle.refusal.specs.declared.Cause.{Cause}
 use Rattle.refusal.specs.declared.Cause.the-variants.{Oversized, ShortOutput}
 use Rattle.reading.specs.declared.Reading.{Reading}
 use Rattle.codec.specs.Kinds.{videoKind, audioKind}
-use Rattle.clear.specs.declared.Key.{Key}
-use Rattle.clear.specs.Unmasking.{unmaskingOf}
+use Rattle.unmasking.specs.declared.Key.{Key}
+use Rattle.unmasking.specs.Unmasking.{unmaskingOf}
 use Rattle.header.specs.declared.Header.{Header}
 use Rattle.film.specs.Films.{Film, film, refused, filmOf, surveyOf}
 use Rattle.film.specs.declared.Surveyed.{Surveyed}

@@ -13,9 +13,9 @@ use Rattle.mask.specs.Promises.{apart}
 use Rattle.chunk.specs.declared.Chunk.{Chunk}
 use Rattle.chunk.specs.Chunks.{payloadOf}
 use Rattle.walk.specs.Walks.{videoSize, audioSize}
-use Rattle.clear.specs.declared.Key.{Key}
-use Rattle.clear.specs.declared.Key.the-variants.{Given}
-use Rattle.clear.specs.Unmasking.{isAdx}
+use Rattle.unmasking.specs.declared.Key.{Key}
+use Rattle.unmasking.specs.declared.Key.the-variants.{Given}
+use Rattle.unmasking.specs.Unmasking.{isAdx}
 use Rattle.header.specs.declared.Header.{Header}
 use Rattle.film.specs.Films.{film, filmOf, surveyOf}
 use Rattle.film.specs.declared.Surveyed.the-variants as survey
@@ -80,7 +80,7 @@ VideoDiffersPayloadByPayload =
     → Extraction container reading (Given key′) video audio (extracted.Film contents′) videoAfter′ audioAfter′
     → filmOf container reading ≡ film header (before ++ chunk ∷ after) → p < length (videoPart (chunk .kind) (payloadOf container chunk))
     → apart videoAfter videoAfter′ (videoSize before + p)
-    ≡ cond ((eqb (chunk .tag) 0 && leb 0x240 (length (videoPart (chunk .kind) (payloadOf container chunk)))) && videoDiffers p) (difference key key′ (p % 0x20)) 0
+    ≡ cond ((eqb (chunk .«data_type») 0 && leb 0x240 (length (videoPart (chunk .kind) (payloadOf container chunk)))) && videoDiffers p) (difference key key′ (p % 0x20)) 0
 
 -- and so an audio payload of data type 0, of ADX sound
 abbrev pub AudioDiffersPayloadByPayload : Type 0
@@ -91,4 +91,4 @@ AudioDiffersPayloadByPayload =
     → Extraction container reading (Given key′) video audio (extracted.Film contents′) videoAfter′ audioAfter′
     → filmOf container reading ≡ film header (before ++ chunk ∷ after) → p < length (audioPart (chunk .kind) (payloadOf container chunk))
     → apart audioAfter audioAfter′ (audioSize before + p)
-    ≡ cond ((isAdx (header .«audio_codec») && eqb (chunk .tag) 0) && audioDiffers p) (difference key key′ (p % 0x20)) 0
+    ≡ cond ((isAdx (header .«audio_codec») && eqb (chunk .«data_type») 0) && audioDiffers p) (difference key key′ (p % 0x20)) 0

@@ -5,8 +5,8 @@ use Rattle.chunk.specs.declared.Chunk.{Chunk}
 use Rattle.chunk.specs.declared.Kind.{Kind}
 use Rattle.chunk.specs.declared.Kind.the-variants.{Video, Audio, Other, End}
 use Rattle.chunk.specs.Chunks.{payloadOf}
-use Rattle.clear.specs.declared.Unmasking.{Unmasking}
-use Rattle.clear.specs.Unmasking.{clearVideo, clearAudio}
+use Rattle.unmasking.specs.declared.Unmasking.{Unmasking}
+use Rattle.unmasking.specs.Unmasking.{clearVideo, clearAudio}
 
 -- a payload's share in a stream
 abbrev pub videoPart : Kind → List ℕ → List ℕ
@@ -23,10 +23,10 @@ audioPart End payload = []
 
 -- what a chunk gives to a stream, clear
 abbrev pub videoPiece : List ℕ → Unmasking → Chunk → List ℕ
-videoPiece container by chunk = clearVideo by (chunk .tag) (videoPart (chunk .kind) (payloadOf container chunk))
+videoPiece container by chunk = clearVideo by (chunk .«data_type») (videoPart (chunk .kind) (payloadOf container chunk))
 
 abbrev pub audioPiece : List ℕ → Unmasking → Chunk → List ℕ
-audioPiece container by chunk = clearAudio by (chunk .tag) (audioPart (chunk .kind) (payloadOf container chunk))
+audioPiece container by chunk = clearAudio by (chunk .«data_type») (audioPart (chunk .kind) (payloadOf container chunk))
 
 -- the pieces of all chunks, one after the other
 unfoldable pub joined : (Chunk → List ℕ) → List Chunk → List ℕ

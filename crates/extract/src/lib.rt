@@ -8,23 +8,23 @@ ghost use Prim.Native.Nat.{_+_, _≤_};
 ghost use lib.ListN.{length};
 ghost use lib.Dec.{ltb};
 ghost use lib.Seq.{sets};
-ghost use Rattle.clear.specs.Unmasking.{clearVideo, clearAudio};
+ghost use Rattle.unmasking.specs.Unmasking.{clearVideo, clearAudio};
 ghost use Rattle.walk.specs.Walks.{walkFrom, videoSize, audioSize};
 ghost use Rattle.extract.specs.Streams.{videoPart, audioPart, videoStream, audioStream};
 ghost use Rattle.extract.specs.Extraction.{refusedBy, contentsOf, Extraction};
 use chunk::ChunkStep;
 use chunk::Kind;
-use clear::Key;
-use clear::Unmasking;
 use codec::AudioKind;
 use codec::Codec;
 use codec::VideoKind;
 use film::Surveyed;
+use film_name::Name;
 use header::Header;
-use part::Name;
 use reading::Reading;
 use refusal::Cause;
 use refusal::Refusal;
+use unmasking::Key;
+use unmasking::Unmasking;
 
 // What a film holds, besides the bytes of its streams.
 pub struct Contents {
@@ -69,23 +69,23 @@ fn audio_part(kind: Kind, payload: &[u8]) -> &[u8]
 }
 
 // Puts a video payload, made clear, into an output from a place on.
-fn put_video(payload: &[u8], tag: u8, unmasking: Unmasking, out: &mut [u8], at: usize)
+fn put_video(payload: &[u8], data_type: u8, unmasking: Unmasking, out: &mut [u8], at: usize)
     requires { ⌜ at + length (now payload) ≤ length (now out) ⌝ }
-    ensures { λ _. ⌜ now (out .exit) ≡ sets (now (out .entry)) at (clearVideo unmasking tag (now (payload .entry))) ⌝ }
+    ensures { λ _. ⌜ now (out .exit) ≡ sets (now (out .entry)) at (clearVideo unmasking data_type (now (payload .entry))) ⌝ }
 {
     let end = at + payload.len();
     bytes::copy(payload, &mut out[at..end]);
-    clear::clear_video(&mut out[at..end], tag, unmasking);
+    unmasking::unmask_video(&mut out[at..end], data_type, unmasking);
 }
 
 // Puts an audio payload, made clear, into an output from a place on.
-fn put_audio(payload: &[u8], tag: u8, unmasking: Unmasking, out: &mut [u8], at: usize)
+fn put_audio(payload: &[u8], data_type: u8, unmasking: Unmasking, out: &mut [u8], at: usize)
     requires { ⌜ at + length (now payload) ≤ length (now out) ⌝ }
-    ensures { λ _. ⌜ now (out .exit) ≡ sets (now (out .entry)) at (clearAudio unmasking tag (now (payload .entry))) ⌝ }
+    ensures { λ _. ⌜ now (out .exit) ≡ sets (now (out .entry)) at (clearAudio unmasking data_type (now (payload .entry))) ⌝ }
 {
     let end = at + payload.len();
     bytes::copy(payload, &mut out[at..end]);
-    clear::clear_audio(&mut out[at..end], tag, unmasking);
+    unmasking::unmask_audio(&mut out[at..end], data_type, unmasking);
 }
 
 // Writes both streams: each payload goes to its place in its stream. Where the chunks are refused, they end; a film that
@@ -118,8 +118,8 @@ fn write_streams(
                 let payload = chunk::payload_of(container, chunk);
                 let picture = video_part(kind, payload);
                 let sound = audio_part(kind, payload);
-                put_video(picture, chunk.tag, unmasking, video, seen);
-                put_audio(sound, chunk.tag, unmasking, audio, heard);
+                put_video(picture, chunk.data_type, unmasking, video, seen);
+                put_audio(sound, chunk.data_type, unmasking, audio, heard);
                 seen += picture.len();
                 heard += sound.len();
                 at = chunk.next;
@@ -202,7 +202,7 @@ pub fn extract(
             }
             let codec = header.audio_codec;
             let applied = reading::applied_to(header.audio, reading);
-            let unmasking = clear::unmasking_of(key, codec);
+            let unmasking = unmasking::unmasking_of(key, codec);
             write_streams(container, header.start, applied, unmasking, video, audio);
             Extracted::Film(contents_of(header, seen, heard))
         }

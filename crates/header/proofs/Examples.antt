@@ -5,8 +5,8 @@ use mathlib.Core.List.{List, [], _∷_, _++_, map}
 use mathlib.Core.Bool.{Bool, true, false}
 use lib.ListN.{length, take}
 use Rattle.refusal.specs.declared.Cause.the-variants.{RanOut}
-use Rattle.letters.specs.Letters.{sameBytes, headerEnd, metadataEnd, contentsEnd}
-use Rattle.part.specs.declared.Name.the-variants.{Fallback}
+use Rattle.signature.specs.Signatures.{sameBytes, headerEnd, metadataEnd, contentsEnd}
+use Rattle.film_name.specs.declared.Name.the-variants.{Fallback}
 use Rattle.codec.specs.declared.Codec.the-variants.{Absent}
 use Rattle.table.specs.Walks.{walkOf, columnsFrom, rowsFrom}
 use Rattle.table.specs.Tables.{tableOf}

@@ -7,12 +7,12 @@ use native.Mathlib.Omega.{arith}
 use lib.ListN.{length}
 use lib.Dec.{ltb}
 use Rattle.refusal.specs.declared.Cause.the-variants as cause
-use Rattle.letters.specs.Letters.{CRID, SFA, SFV}
+use Rattle.signature.specs.Signatures.{CRID, SFA, SFV}
 use Rattle.cell.specs.declared.Cell.{Cell}
 use Rattle.cell.specs.declared.Cell.the-variants.{Nothing, Unsigned, Signed, Float, NotANumber, Text, Data}
-use Rattle.part.specs.declared.Name.{Name}
-use Rattle.part.specs.declared.Name.the-variants.{Part, Fallback}
-use Rattle.part.specs.Parts.{nameIn}
+use Rattle.film_name.specs.declared.Name.{Name}
+use Rattle.film_name.specs.declared.Name.the-variants.{Part, Fallback}
+use Rattle.film_name.specs.Names.{nameIn}
 use Rattle.codec.specs.declared.Codec.{Codec}
 use Rattle.codec.specs.declared.Codec.the-variants.{Absent}
 use Rattle.table.specs.Tables.{tableAt}

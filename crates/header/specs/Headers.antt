@@ -7,8 +7,8 @@ use lib.ListN.{length}
 use lib.Dec.{ltb}
 use Rattle.refusal.specs.declared.Cause.{Cause}
 use Rattle.refusal.specs.declared.Cause.the-variants.{RanOut, NoVideo, NoAudio, NoHeaderEnd, NoMetadataEnd, TooLong}
-use Rattle.letters.specs.Letters.{SFV, SFA, headerEnd, metadataEnd}
-use Rattle.part.specs.declared.Name.{Name}
+use Rattle.signature.specs.Signatures.{SFV, SFA, headerEnd, metadataEnd}
+use Rattle.film_name.specs.declared.Name.{Name}
 use Rattle.codec.specs.declared.Codec.{Codec}
 use Rattle.codec.specs.declared.Codec.the-variants.{Absent}
 use Rattle.block.specs.declared.BlockAnswer.{BlockAnswer}

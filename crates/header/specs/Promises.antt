@@ -3,7 +3,7 @@ use Prim.Native.Nat.{ℕ, _+_, _≤_}
 use mathlib.Core.Path.{_≡_}
 use mathlib.Core.List.{List}
 use lib.ListN.{length}
-use Rattle.part.specs.declared.Name.the-variants.{Part}
+use Rattle.film_name.specs.declared.Name.the-variants.{Part}
 use Rattle.header.specs.declared.Header.{Header}
 use Rattle.header.specs.declared.HeaderAnswer.the-variants.{Read}
 use Rattle.header.specs.Headers.{headerOf}

@@ -8,7 +8,7 @@ use block::BlockAnswer;
 use block::CodecBlock;
 use block::NameBlock;
 use codec::Codec;
-use part::Name;
+use film_name::Name;
 use refusal::Cause;
 use refusal::Refusal;
 
@@ -46,7 +46,7 @@ fn step_7_audio(container: &[u8], place: usize) -> BlockAnswer
 {
     block::marker_block(
         container,
-        letters::SFA,
+        signature::SFA,
         Cause::NoAudio,
         b"#METADATA END",
         Cause::NoMetadataEnd,
@@ -60,7 +60,7 @@ fn step_7_video(container: &[u8], place: usize) -> BlockAnswer
 {
     match block::marker_block(
         container,
-        letters::SFV,
+        signature::SFV,
         Cause::NoVideo,
         b"#METADATA END",
         Cause::NoMetadataEnd,
@@ -75,7 +75,7 @@ fn step_7_video(container: &[u8], place: usize) -> BlockAnswer
 fn step_7_table(container: &[u8], place: usize) -> BlockAnswer
     ensures { λ r. ⌜ r ≡ step7Table (now (container .entry)) place ⌝ }
 {
-    match block::table_block(container, letters::SFA, Cause::NoAudio, place) {
+    match block::table_block(container, signature::SFA, Cause::NoAudio, place) {
         BlockAnswer::Next(next) => step_7_video(container, next),
         BlockAnswer::NoBlock(refusal) => BlockAnswer::NoBlock(refusal),
     }
@@ -102,7 +102,7 @@ fn step_7(container: &[u8], audio: bool, place: usize) -> BlockAnswer
 fn step_6(container: &[u8], audio: bool, place: usize) -> BlockAnswer
     ensures { λ r. ⌜ r ≡ step6 (now (container .entry)) audio place ⌝ }
 {
-    match block::table_block(container, letters::SFV, Cause::NoVideo, place) {
+    match block::table_block(container, signature::SFV, Cause::NoVideo, place) {
         BlockAnswer::Next(next) => step_7(container, audio, next),
         BlockAnswer::NoBlock(refusal) => BlockAnswer::NoBlock(refusal),
     }
@@ -115,7 +115,7 @@ fn step_5(container: &[u8], audio: bool, place: usize) -> BlockAnswer
     if audio {
         return match block::marker_block(
             container,
-            letters::SFA,
+            signature::SFA,
             Cause::NoAudio,
             b"#HEADER END",
             Cause::NoHeaderEnd,
@@ -134,7 +134,7 @@ fn step_4(container: &[u8], audio: bool, place: usize) -> BlockAnswer
 {
     match block::marker_block(
         container,
-        letters::SFV,
+        signature::SFV,
         Cause::NoVideo,
         b"#HEADER END",
         Cause::NoHeaderEnd,
@@ -167,7 +167,7 @@ fn step_3_audio(container: &[u8], name: Name, video: Codec, place: usize) -> Hea
 {
     match block::codec_block(
         container,
-        letters::SFA,
+        signature::SFA,
         Cause::NoAudio,
         b"audio_codec",
         place,
@@ -203,7 +203,7 @@ fn step_2(container: &[u8], name: Name, place: usize) -> HeaderAnswer
 {
     match block::codec_block(
         container,
-        letters::SFV,
+        signature::SFV,
         Cause::NoVideo,
         b"mpeg_codec",
         place,

@@ -24,7 +24,7 @@ pub number-length : (after n : ℕ) → length (numberThen after n) ≡ length (
 unfolding numberThen
 number-length after n = length-append (decimal n) (after ∷ [])
 
-pub line-length : (chunk : Chunk) → length (lineOf chunk) ≡ length (numberThen space (chunk .start)) + length (kindWord (chunk .kind)) + length (numberThen space (chunk .tag)) + length (numberThen newline (chunk .len))
+pub line-length : (chunk : Chunk) → length (lineOf chunk) ≡ length (numberThen space (chunk .start)) + length (kindWord (chunk .kind)) + length (numberThen space (chunk .«data_type»)) + length (numberThen newline (chunk .len))
 unfolding lineOf
 line-length chunk = simp length-append
 
@@ -46,9 +46,9 @@ word-short Other = omega arith
 word-short End = omega arith
 
 -- of numbers below 100,000, and a data type
-line-short : (chunk : Chunk) → chunk .start < 100000 → chunk .tag < 10 → chunk .len < 100000 → length (lineOf chunk) ≤ 20
+line-short : (chunk : Chunk) → chunk .start < 100000 → chunk .«data_type» < 10 → chunk .len < 100000 → length (lineOf chunk) ≤ 20
 line-short chunk s t l =
-    omega (arith, line-length chunk, number-short space 4 (chunk .start) s, word-short (chunk .kind), number-short space 0 (chunk .tag) t, number-short newline 4 (chunk .len) l)
+    omega (arith, line-length chunk, number-short space 4 (chunk .start) s, word-short (chunk .kind), number-short space 0 (chunk .«data_type») t, number-short newline 4 (chunk .len) l)
 
 pub refusal-short : (refusal : Refusal) → length (refusalLine refusal) ≤ 53
 refusal-short refusal = omega (arith, refusal-length refusal, number-fits space (numberOf (refusal .cause)), number-fits newline (refusal .place))

@@ -34,7 +34,7 @@ kindWord End = 0x65 ∷ 0x6E ∷ 0x64 ∷ space ∷ []
 
 -- "one line per chunk", "as start, kind .., type, length"
 unfoldable pub lineOf : Chunk → List ℕ
-lineOf chunk = numberThen space (chunk .start) ++ kindWord (chunk .kind) ++ numberThen space (chunk .tag) ++ numberThen newline (chunk .len)
+lineOf chunk = numberThen space (chunk .start) ++ kindWord (chunk .kind) ++ numberThen space (chunk .«data_type») ++ numberThen newline (chunk .len)
 
 unfoldable pub linesOf : List Chunk → List ℕ
 linesOf [] = []

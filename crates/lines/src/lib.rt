@@ -74,7 +74,7 @@ fn put_line(out: &mut [u8], place: usize, chunk: Chunk) -> usize
     let kind = chunk.kind;
     let at = put_number(out, place, chunk.start as u64, b' ');
     let at = put_kind(out, at, kind);
-    let at = put_number(out, at, chunk.tag as u64, b' ');
+    let at = put_number(out, at, chunk.data_type as u64, b' ');
     put_number(out, at, chunk.len as u64, b'\n')
 }
 

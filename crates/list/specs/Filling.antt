@@ -33,7 +33,7 @@ planOf room reading s = record { number = listNumber (listedIn room s); count = 
 
 -- a record and the next place; nothing of use where there is no chunk
 abbrev pub noRecord : RecordStep
-noRecord = record { made = record { start = 0; kind = 0; tag = 0; len = 0 }; next = 0 }
+noRecord = record { made = record { start = 0; kind = 0; «data_type» = 0; len = 0 }; next = 0 }
 
 abbrev pub stepOf : ChunkStep → RecordStep
 stepOf Over = noRecord

@@ -20,7 +20,7 @@ use Rattle.list.specs.declared.Listed.the-variants.{Count, Refused}
 
 -- "start, kind, data type, payload length (0 if skipped)"
 abbrev pub recordOf : Chunk → ChunkRecord
-recordOf chunk = record { start = chunk .start; kind = kindNumber (chunk .kind); tag = chunk .tag; len = chunk .len }
+recordOf chunk = record { start = chunk .start; kind = kindNumber (chunk .kind); «data_type» = chunk .«data_type»; len = chunk .len }
 
 -- "Listing returns the chunk count"; 13, "chunk list too short", with the count, at 0
 abbrev pub listedIn : ℕ → Surveyed → Listed

@@ -17,7 +17,7 @@ use refusal::Refusal;
 pub struct ChunkRecord {
     pub start: usize,
     pub kind: u8,
-    pub tag: u8,
+    pub data_type: u8,
     pub len: usize,
 }
 
@@ -148,7 +148,7 @@ fn record_of(chunk: Chunk) -> ChunkRecord
     ChunkRecord {
         start: chunk.start,
         kind: chunk::kind_number(kind),
-        tag: chunk.tag,
+        data_type: chunk.data_type,
         len: chunk.len,
     }
 }
@@ -161,7 +161,7 @@ fn no_record() -> RecordStep
         made: ChunkRecord {
             start: 0,
             kind: 0,
-            tag: 0,
+            data_type: 0,
             len: 0,
         },
         next: 0,

@@ -1,39 +1,24 @@
--- Document 01, "@UTF tables": strings and data as parts of the slice that holds the table, and the name.
+-- A part of a slice: in which slice it lies, where it starts there, and its bytes.
 use Prim.Native.Nat.{ℕ, _+_}
+use mathlib.Core.Path.{_≡_}
 use mathlib.Core.List.{List, []}
 use mathlib.Core.Bool.{cond}
 use lib.ListN.{length, take, drop}
 use lib.Dec.{leb}
-use Rattle.cell.specs.declared.Cell.{Cell}
-use Rattle.cell.specs.declared.Cell.the-variants.{Nothing, Unsigned, Signed, Float, NotANumber, Text, Data}
-use Rattle.part.specs.declared.Name.{Name}
-use Rattle.part.specs.declared.Name.the-variants.{Part, Fallback}
+use denote.Ref.{RefT, now}
 
 -- `len` bytes from a start on; none where the slice does not hold that much
 abbrev pub partAt : List ℕ → ℕ → ℕ → List ℕ
 partAt bytes start len = cond (leb (start + len) (length bytes)) (take len (drop start bytes)) []
 
--- the bytes of a string or data cell; no bytes for any other cell
-abbrev pub partOf : List ℕ → Cell → List ℕ
-partOf bytes Nothing = []
-partOf bytes (Unsigned n) = []
-partOf bytes (Signed z) = []
-partOf bytes (Float x) = []
-partOf bytes (NotANumber n) = []
-partOf bytes (Text start len) = partAt bytes start len
-partOf bytes (Data start len) = partAt bytes start len
+-- where this part starts: a slice that does not hold that much gives its empty part at byte 0
+abbrev pub partStart : List ℕ → ℕ → ℕ → ℕ
+partStart bytes start len = cond (leb (start + len) (length bytes)) start 0
 
--- "The name is the `filename` cell of the last row if string or data, else the fallback."
-abbrev pub nameIn : Cell → Name
-nameIn Nothing = Fallback
-nameIn (Unsigned n) = Fallback
-nameIn (Signed z) = Fallback
-nameIn (Float x) = Fallback
-nameIn (NotANumber n) = Fallback
-nameIn (Text start len) = Part start len
-nameIn (Data start len) = Part start len
+-- r is a part of the slice s: it lies in the same memory, starts at byte `start` of s, and holds these bytes
+abbrev pub IsPart : RefT (List ℕ) → ℕ → List ℕ → RefT (List ℕ) → Type 0
+IsPart s start bytes r = (r .ptr .0 ≡ s .ptr .0) × (r .ptr .1 ≡ start + s .ptr .1) × (now r ≡ bytes)
 
--- "the name as a part of the container or of the fallback name"
-abbrev pub nameOf : List ℕ → List ℕ → Name → List ℕ
-nameOf container fallback (Part start len) = partAt container start len
-nameOf container fallback Fallback = fallback
+-- r is the part of s that has `len` bytes from a start on
+abbrev pub PartAt : RefT (List ℕ) → ℕ → ℕ → RefT (List ℕ) → Type 0
+PartAt s start len r = IsPart s (partStart (now s) start len) (partAt (now s) start len) r

@@ -1,4 +1,4 @@
-// How a container is read: the caller's choices, as one record that goes by value through chunks, listing and extraction.
+// How a container is read: what a caller asks for, and what of it applies to one film. Both go by value.
 // Document 01, "Chunks": audio is taken "if present and chosen".
 ghost use mathlib.Core.Path.{_≡_};
 ghost use Rattle.reading.specs.Choices.{isChosen, readingBy, appliedTo};
@@ -9,9 +9,23 @@ pub enum AudioChoice {
     Chosen,
 }
 
-// How to read.
+// How to read, as a caller asks.
 pub struct Reading {
     pub audio: AudioChoice,
+}
+
+// How one film is read: what was asked, as far as the film has it.
+pub struct Applied {
+    pub audio: AudioChoice,
+}
+
+// How to read, as C asks. Only `audio` is looked at; the other bytes keep room for choices to come.
+#[repr(C)]
+pub struct ReadingBytes {
+    pub audio: u8,
+    pub channel: u8,
+    pub payloads: u8,
+    pub tables: u8,
 }
 
 // Whether audio is asked for.
@@ -24,11 +38,11 @@ pub fn is_chosen(choice: AudioChoice) -> bool
     }
 }
 
-// The choices by a number, as C gives them: audio is asked for by every number but 0.
-pub fn reading_by(audio: u8) -> Reading
-    ensures { λ r. ⌜ r ≡ readingBy audio ⌝ }
+// What C asks for: audio by every number but 0.
+pub fn reading_by(asked: ReadingBytes) -> Reading
+    ensures { λ r. ⌜ r ≡ readingBy asked ⌝ }
 {
-    if audio == 0 {
+    if asked.audio == 0 {
         return Reading {
             audio: AudioChoice::NotChosen,
         };
@@ -38,14 +52,15 @@ pub fn reading_by(audio: u8) -> Reading
     }
 }
 
-// The choices as they stand for one container: where it has no audio, none is taken.
-pub fn applied_to(present: bool, reading: Reading) -> Reading
+// What applies to a film: where it has no audio, none is taken.
+pub fn applied_to(present: bool, reading: Reading) -> Applied
     ensures { λ r. ⌜ r ≡ appliedTo present reading ⌝ }
 {
+    let audio = reading.audio;
     if present {
-        return reading;
+        return Applied { audio };
     }
-    Reading {
+    Applied {
         audio: AudioChoice::NotChosen,
     }
 }

@@ -1,18 +1,18 @@
 // The lines that are written: what our functions answer on a container, extracted or listed.
-use clear::Key;
 use codec::AudioKind;
 use codec::Codec;
 use codec::VideoKind;
 use extract::Contents;
 use extract::Extracted;
+use film_name::Name;
 use list::ChunkRecord;
 use list::Listed;
 use list::Plan;
-use part::Name;
 use reading::Reading;
 use refusal::Cause;
 use refusal::Refusal;
 use text::Line;
+use unmasking::Key;
 
 // Writes a refusal's number and place, and the type where it is one that is unknown.
 fn write_refusal(refusal: Refusal) {
@@ -48,7 +48,7 @@ fn write_stream(line: Line, size: usize, output: &[u8]) {
 fn write_name<'a>(container: &'a [u8], fallback: &'a [u8], name: Name) {
     text::empty()
         .word(b"name ")
-        .hex_bytes(part::name_of(container, fallback, name))
+        .hex_bytes(film_name::name_of(container, fallback, name))
         .end();
 }
 
@@ -106,7 +106,7 @@ fn with_kind(line: Line, kind: u8) -> Line {
 // Writes a record.
 fn write_record(made: ChunkRecord) {
     with_kind(text::empty().decimal(made.start as u64), made.kind)
-        .decimal(made.tag as u64)
+        .decimal(made.data_type as u64)
         .word(b" ")
         .decimal(made.len as u64)
         .end();

@@ -1,6 +1,6 @@
 // The questions of the list: what an extraction and a listing are asked with, read from the text of a line.
-use clear::Key;
 use reading::Reading;
+use unmasking::Key;
 
 // The longest fallback name of the list.
 const MOST_NAME: usize = 4096;

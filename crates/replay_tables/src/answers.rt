@@ -43,7 +43,7 @@ fn write_float(bits: u64) {
 fn write_part(word: &[u8], bytes: &[u8], cell: Cell) {
     text::empty()
         .word(word)
-        .hex_bytes(part::part_of(bytes, cell))
+        .hex_bytes(cell::part_of(bytes, cell))
         .end();
 }
 

@@ -3,8 +3,8 @@ use Prim.Native.Nat.{ℕ}
 use mathlib.Core.List.{List, [], _∷_}
 use mathlib.Core.Bool.{Bool, true, false}
 use Rattle.refusal.specs.Numbers.{numberOf, firstValue, secondValue}
-use Rattle.part.specs.declared.Name.{Name}
-use Rattle.part.specs.declared.Name.the-variants.{Part, Fallback}
+use Rattle.film_name.specs.declared.Name.{Name}
+use Rattle.film_name.specs.declared.Name.the-variants.{Part, Fallback}
 use Rattle.codec.specs.Numbers.{presenceOf, valueOf, videoNumber, audioNumber}
 use Rattle.extract.specs.declared.Contents.{Contents}
 use Rattle.extract.specs.declared.Extracted.{Extracted}

@@ -5,9 +5,9 @@ ghost use Rattle.report.specs.TableWords.{tableWords, cellWords};
 ghost use Rattle.report.specs.FilmWords.{bitOf, nameSource, nameStart, nameLength, contentsWords, filmWords, listWords};
 use extract::Contents;
 use extract::Extracted;
+use film_name::Name;
 use list::Listed;
 use lookup::Lookup;
-use part::Name;
 use table::TableAnswer;
 
 // The words of a table's report.

@@ -4,7 +4,7 @@ use mathlib.Core.Path.{_≡_}
 use mathlib.Core.List.{List}
 use lib.ListN.{length}
 use Rattle.reading.specs.declared.Reading.{Reading}
-use Rattle.clear.specs.declared.Key.{Key}
+use Rattle.unmasking.specs.declared.Key.{Key}
 use Rattle.film.specs.Films.{filmOf}
 use Rattle.extract.specs.Extraction.{extractedOf, leftBy, videoOf, audioOf}
 use Rattle.report.specs.FilmWords.{filmWords}

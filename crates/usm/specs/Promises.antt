@@ -3,7 +3,7 @@ use Prim.Native.Nat.{ℕ}
 use mathlib.Core.Path.{_≡_}
 use mathlib.Core.List.{List}
 use Rattle.reading.specs.declared.Reading.{Reading}
-use Rattle.clear.specs.declared.Key.{Key}
+use Rattle.unmasking.specs.declared.Key.{Key}
 use Rattle.usm.specs.Exports.{FilmReported}
 
 -- "Over a container, no key and no lack of one changes a refusal, name, codec, size": two calls that differ in the key give one number and leave one report

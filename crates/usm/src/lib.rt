@@ -8,7 +8,7 @@ ghost use Rattle.laws.specs.Lists.{at};
 ghost use Rattle.table.specs.Tables.{tableAt};
 ghost use Rattle.lookup.specs.Lookups.{cellOf};
 ghost use Rattle.reading.specs.Choices.{readingBy};
-ghost use Rattle.clear.specs.Unmasking.{keyBy};
+ghost use Rattle.unmasking.specs.Unmasking.{keyBy};
 ghost use Rattle.list.specs.Listing.{listedOf, Listing};
 ghost use Rattle.report.specs.TableWords.{tableWords, cellWords};
 ghost use Rattle.report.specs.FilmWords.{listWords};
@@ -86,7 +86,7 @@ pub extern "C" fn usm_extract(
         return TOO_SHORT;
     }
     let reading = reading::reading_by(audio);
-    let given = clear::key_by(keyed, key);
+    let given = unmasking::key_by(keyed, key);
     let answer = extract::extract(container, reading, given, video, sound);
     let words = report::film_words(answer, fallback.len());
     answer_by(&words, report)

@@ -4,7 +4,7 @@ use mathlib.Core.Path.{_≡_, refl}
 use mathlib.Core.List.{List, _∷_, _++_}
 use Rattle.laws.specs.Lists.{tab}
 use Rattle.reading.specs.declared.AudioChoice.the-variants.{Chosen}
-use Rattle.letters.specs.Letters.{contentsEnd, sameBytes}
+use Rattle.signature.specs.Signatures.{contentsEnd, sameBytes}
 use Rattle.chunk.specs.Chunks.{kindAt, chunkOf, takenAt, chunkAt}
 use Rattle.walk.specs.declared.Measured.the-variants.{Sizes}
 use Rattle.walk.specs.Walks.{walkFor, walkFrom, sizeOf, measureOf}

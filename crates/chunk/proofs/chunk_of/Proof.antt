@@ -9,8 +9,8 @@ use Rattle.chunk.proofs.chunk_of.Tie as tie
 opening-at-requires : tie.Need-opening-at-requires
 opening-at-requires c κs = search needs
 
-shared-slice-read-tag : tie.Need-shared-slice-read-tag
-shared-slice-read-tag c =
+shared-slice-read-data-type : tie.Need-shared-slice-read-data-type
+shared-slice-read-data-type c =
     let long = opening-length _ _ _ (c .before .opening-at .ensures) (c .before .before .before .pre .0) in
     search (needs, long)
 
@@ -33,7 +33,7 @@ chunk-of-spec =
     tie.close
     (tie.spec
     opening-at-requires
-    shared-slice-read-tag
+    shared-slice-read-data-type
     add-next
     read32-requires
     add-next-2

@@ -20,17 +20,17 @@ part-copy-end c = search needs
 copy-requires : tie.Need-copy-requires
 copy-requires c κs = search needs
 
-sub-clear-audio : tie.Need-sub-clear-audio
-sub-clear-audio c = search needs
+sub-unmask-audio : tie.Need-sub-unmask-audio
+sub-unmask-audio c = search needs
 
-part-clear-audio-start : tie.Need-part-clear-audio-start
-part-clear-audio-start c = search needs
+part-unmask-audio-start : tie.Need-part-unmask-audio-start
+part-unmask-audio-start c = search needs
 
-part-clear-audio-end : tie.Need-part-clear-audio-end
-part-clear-audio-end c = search needs
+part-unmask-audio-end : tie.Need-part-unmask-audio-end
+part-unmask-audio-end c = search needs
 
-clear-audio-requires : tie.Need-clear-audio-requires
-clear-audio-requires c κs = search needs
+unmask-audio-requires : tie.Need-unmask-audio-requires
+unmask-audio-requires c κs = search needs
 
 same-length : tie.Need-same-length
 same-length c = search needs
@@ -40,8 +40,8 @@ returns c =
     let copied = c .before .before .before .before .before .before in
     let start = copied .before .before .before .before in
     let stream = audioUnder (start .args .unmasking) in
-    put-clear (stream .clear (start .args .tag)) (stream .keeps (start .args .tag)) (start .args .payload .now) _ _ _ (start .pre) (copied .copy .ensures .1) _
-    (c .before .before .clear-audio .ensures)
+    put-clear (stream .clear (start .args .«data_type»)) (stream .keeps (start .args .«data_type»)) (start .args .payload .now) _ _ _ (start .pre) (copied .copy .ensures .1) _
+    (c .before .before .unmask-audio .ensures)
 
 pub put-audio-spec : {M : Type 1} → statement M
 put-audio-spec =
@@ -52,9 +52,9 @@ put-audio-spec =
     part-copy-start
     part-copy-end
     copy-requires
-    sub-clear-audio
-    part-clear-audio-start
-    part-clear-audio-end
-    clear-audio-requires
+    sub-unmask-audio
+    part-unmask-audio-start
+    part-unmask-audio-end
+    unmask-audio-requires
     same-length
     returns)

@@ -20,17 +20,17 @@ part-copy-end c = search needs
 copy-requires : tie.Need-copy-requires
 copy-requires c κs = search needs
 
-sub-clear-video : tie.Need-sub-clear-video
-sub-clear-video c = search needs
+sub-unmask-video : tie.Need-sub-unmask-video
+sub-unmask-video c = search needs
 
-part-clear-video-start : tie.Need-part-clear-video-start
-part-clear-video-start c = search needs
+part-unmask-video-start : tie.Need-part-unmask-video-start
+part-unmask-video-start c = search needs
 
-part-clear-video-end : tie.Need-part-clear-video-end
-part-clear-video-end c = search needs
+part-unmask-video-end : tie.Need-part-unmask-video-end
+part-unmask-video-end c = search needs
 
-clear-video-requires : tie.Need-clear-video-requires
-clear-video-requires c κs = search needs
+unmask-video-requires : tie.Need-unmask-video-requires
+unmask-video-requires c κs = search needs
 
 same-length : tie.Need-same-length
 same-length c = search needs
@@ -40,8 +40,8 @@ returns c =
     let copied = c .before .before .before .before .before .before in
     let start = copied .before .before .before .before in
     let stream = videoUnder (start .args .unmasking) in
-    put-clear (stream .clear (start .args .tag)) (stream .keeps (start .args .tag)) (start .args .payload .now) _ _ _ (start .pre) (copied .copy .ensures .1) _
-    (c .before .before .clear-video .ensures)
+    put-clear (stream .clear (start .args .«data_type»)) (stream .keeps (start .args .«data_type»)) (start .args .payload .now) _ _ _ (start .pre) (copied .copy .ensures .1) _
+    (c .before .before .unmask-video .ensures)
 
 pub put-video-spec : {M : Type 1} → statement M
 put-video-spec =
@@ -52,9 +52,9 @@ put-video-spec =
     part-copy-start
     part-copy-end
     copy-requires
-    sub-clear-video
-    part-clear-video-start
-    part-clear-video-end
-    clear-video-requires
+    sub-unmask-video
+    part-unmask-video-start
+    part-unmask-video-end
+    unmask-video-requires
     same-length
     returns)

@@ -29,10 +29,10 @@ returns : tie.Need-returns
 unfolding lineOf
 returns c =
     let len = c .before .before in
-    let tag = len .before .before .before .before in
-    let kind = tag .before .before .before .before .before in
+    let data-type = len .before .before .before .before in
+    let kind = data-type .before .before .before .before .before in
     let start = kind .before .before .before .before in
-    put-then (put-then (put-then (start .put-number .ensures) (kind .put-kind .ensures)) (tag .put-number2 .ensures)) (len .put-number3 .ensures)
+    put-then (put-then (put-then (start .put-number .ensures) (kind .put-kind .ensures)) (data-type .put-number2 .ensures)) (len .put-number3 .ensures)
 
 pub put-line-spec : {M : Type 1} → statement M
 put-line-spec =

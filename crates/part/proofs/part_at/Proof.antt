@@ -4,7 +4,7 @@ use native.Mathlib.Omega.{arith}
 use borrow.Author.Needs.{needs}
 use borrow.Author.Tests.{le-leb, lt-leb}
 use lib.ListN.{length}
-use mathlib.Core.Path.{_≡_}
+use mathlib.Core.Path.{_≡_, refl}
 use Rattle.part.proofs.part_at.Statement.{statement}
 use Rattle.part.proofs.part_at.Tie as tie
 
@@ -21,7 +21,7 @@ returns : tie.Need-returns
 returns c =
     let a = c .before .before .before .args in
     let out : length (a .bytes .now) < a .start + a .len = omega arith in
-    rw (lt-leb _ _ out)
+    (refl, rw (lt-leb _ _ out), rw (lt-leb _ _ out))
 
 left-from-requires : tie.Need-left-from-requires
 left-from-requires c κs = search needs
@@ -39,7 +39,7 @@ returns-2 : tie.Need-returns-2
 returns-2 c =
     let a = c .before .before .before .before .before .args in
     let out : length (a .bytes .now) < a .start + a .len = omega arith in
-    rw (lt-leb _ _ out)
+    (refl, rw (lt-leb _ _ out), rw (lt-leb _ _ out))
 
 add-end : tie.Need-add-end
 add-end c = search needs
@@ -58,7 +58,7 @@ returns-3 c =
     let a = c .before .before .before .before .before .args in
     let within : a .start + a .len ≤ length (a .bytes .now) = omega arith in
     let all : a .start + a .len - a .start ≡ a .len = omega arith in
-    rw (le-leb _ _ within, all)
+    (refl, rw (le-leb _ _ within), rw (le-leb _ _ within, all))
 
 pub part-at-spec : {M : Type 1} → statement M
 part-at-spec =

@@ -6,7 +6,7 @@ use lib.ListN.{length}
 use Rattle.extract.specs.declared.Extracted.{Extracted}
 use Rattle.extract.specs.Extraction.{extractedOf, leftBy, videoOf, audioOf}
 use Rattle.reading.specs.Choices.{readingBy}
-use Rattle.clear.specs.Unmasking.{keyBy}
+use Rattle.unmasking.specs.Unmasking.{keyBy}
 use Rattle.film.specs.Films.{filmOf}
 use Rattle.report.specs.FilmWords.{filmWords}
 use Rattle.report.proofs.WordLaws.{film-sized}
