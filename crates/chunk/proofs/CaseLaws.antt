@@ -9,7 +9,7 @@ use borrow.Author.Tests.{eq-eqb, ne-eqb, lt-ltb, le-ltb}
 use Rattle.laws.specs.Lists.{at}
 use Rattle.word.specs.Numbers.{be32}
 use Rattle.refusal.specs.declared.Cause.the-variants.{RanOut, TooSmall}
-use Rattle.reading.specs.declared.Reading.{Reading}
+use Rattle.reading.specs.declared.Applied.{Applied}
 use Rattle.signature.specs.Signatures.{SFV, SFA, contentsEnd, standsAt}
 use Rattle.chunk.specs.declared.Kind.{Kind}
 use Rattle.chunk.specs.declared.Kind.the-variants.{Video, Audio, Other, End}
@@ -42,7 +42,7 @@ pub read-so : (container : List ℕ) (c n : ℕ) (kind : Kind) (byte block : ℕ
 unfolding chunkOf
 read-so container c n kind byte block e f g = cc
 
-module _ (container : List ℕ) (reading : Reading) (c : ℕ) where
+module _ (container : List ℕ) (reading : Applied) (c : ℕ) where
   pub over : length container - c < 4 → Over ≡ chunkAt container reading c
   unfolding chunkAt
   over h = rw (lt-ltb _ _ h)

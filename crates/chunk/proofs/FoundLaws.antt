@@ -11,7 +11,7 @@ use borrow.Author.Tests.{ltb-false}
 use Rattle.word.specs.Numbers.{be32}
 use Rattle.refusal.specs.declared.Cause.{Cause}
 use Rattle.refusal.specs.declared.Cause.the-variants.{RanOut, TooSmall}
-use Rattle.reading.specs.declared.Reading.{Reading}
+use Rattle.reading.specs.declared.Applied.{Applied}
 use Rattle.chunk.specs.declared.Chunk.{Chunk}
 use Rattle.chunk.specs.declared.ChunkStep.{ChunkStep}
 use Rattle.chunk.specs.declared.ChunkStep.the-variants.{Over, Found}
@@ -54,7 +54,7 @@ module _ (container : List ℕ) (c : ℕ) (chunk : Chunk) (enough : 45 ≤ lengt
   of-either true e = of-taken e
   of-either false e = of-length 0 (omega arith) (omega arith) e
 
-pub found : (container : List ℕ) (reading : Reading) (c : ℕ) (chunk : Chunk) → chunkAt container reading c ≡ Found chunk → Within container c chunk
+pub found : (container : List ℕ) (reading : Applied) (c : ℕ) (chunk : Chunk) → chunkAt container reading c ≡ Found chunk → Within container c chunk
 unfolding chunkAt
 found container reading c chunk e =
     let a = not-over (ltb (length container - c) 4) chunk _ e in

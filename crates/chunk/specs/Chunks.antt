@@ -8,7 +8,7 @@ use Rattle.laws.specs.Lists.{at}
 use Rattle.word.specs.Numbers.{be16, be32}
 use Rattle.refusal.specs.declared.Cause.{Cause}
 use Rattle.refusal.specs.declared.Cause.the-variants.{RanOut, TooSmall}
-use Rattle.reading.specs.declared.Reading.{Reading}
+use Rattle.reading.specs.declared.Applied.{Applied}
 use Rattle.reading.specs.Choices.{isChosen}
 use Rattle.part.specs.Parts.{partAt}
 use Rattle.signature.specs.Signatures.{SFV, SFA, contentsEnd, standsAt}
@@ -33,7 +33,7 @@ kindAt container c =
     (cond (eqb (be32 container c) SFA) Audio Other))
 
 -- "`@SFV` payloads go to video, `@SFA` to audio if present and chosen; others are skipped"
-abbrev pub isTaken : Reading → Kind → Bool
+abbrev pub isTaken : Applied → Kind → Bool
 isTaken reading Video = true
 isTaken reading Audio = isChosen (reading .audio)
 isTaken reading Other = false
@@ -59,7 +59,7 @@ takenAt container c =
     (Found (chunkOf container c (be32 container (c + 4) - spareAt container c))))
 
 -- "At c, fewer than 4 bytes left: clean end. .. 4 to 44 left: 1."; "others are skipped with no size check"; "payload length (0 if skipped)"
-unfoldable pub chunkAt : List ℕ → Reading → ℕ → ChunkStep
+unfoldable pub chunkAt : List ℕ → Applied → ℕ → ChunkStep
 chunkAt container reading c =
     cond (ltb (length container - c) 4) Over
     (cond (ltb (length container - c) 45) (refusedAt c RanOut)
@@ -70,11 +70,11 @@ chunkAt container reading c =
 abbrev pub payloadOf : List ℕ → Chunk → List ℕ
 payloadOf container chunk = partAt container (chunk .start + 0x20) (chunk .len)
 
--- "Reading one hands back the payload as a part of the container, empty if skipped." Refused, or past the last chunk, there is none
+-- "Applied one hands back the payload as a part of the container, empty if skipped." Refused, or past the last chunk, there is none
 abbrev pub payloadIn : List ℕ → ChunkStep → List ℕ
 payloadIn container Over = []
 payloadIn container (Found chunk) = payloadOf container chunk
 payloadIn container (Refused refusal) = []
 
-abbrev pub payloadAt : List ℕ → Reading → ℕ → List ℕ
+abbrev pub payloadAt : List ℕ → Applied → ℕ → List ℕ
 payloadAt container reading c = payloadIn container (chunkAt container reading c)

@@ -3,7 +3,7 @@ use Prim.Native.Nat.{ℕ, _+_, _≤_}
 use mathlib.Core.Path.{_≡_}
 use mathlib.Core.List.{List}
 use lib.ListN.{length}
-use Rattle.reading.specs.declared.Reading.{Reading}
+use Rattle.reading.specs.declared.Applied.{Applied}
 use Rattle.chunk.specs.declared.Chunk.{Chunk}
 use Rattle.chunk.specs.declared.ChunkStep.the-variants.{Found}
 use Rattle.chunk.specs.Chunks.{chunkAt, payloadOf}
@@ -11,10 +11,10 @@ use Rattle.chunk.specs.Chunks.{chunkAt, payloadOf}
 -- Its payload lies within the container, all of it.
 abbrev pub PayloadsLieWithin : Type 0
 PayloadsLieWithin =
-    (container : List ℕ) (reading : Reading) (c : ℕ) (chunk : Chunk) → chunkAt container reading c ≡ Found chunk
+    (container : List ℕ) (reading : Applied) (c : ℕ) (chunk : Chunk) → chunkAt container reading c ≡ Found chunk
     → (chunk .start + 0x20 + chunk .len ≤ length container) × (length (payloadOf container chunk) ≡ chunk .len)
 
 -- It starts at the place that was asked, and the next one at least 8 bytes further on: so every walk ends.
 abbrev pub NextLiesAfter : Type 0
 NextLiesAfter =
-    (container : List ℕ) (reading : Reading) (c : ℕ) (chunk : Chunk) → chunkAt container reading c ≡ Found chunk → (chunk .start ≡ c) × (c + 8 ≤ chunk .next)
+    (container : List ℕ) (reading : Applied) (c : ℕ) (chunk : Chunk) → chunkAt container reading c ≡ Found chunk → (chunk .start ≡ c) × (c + 8 ≤ chunk .next)

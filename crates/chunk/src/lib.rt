@@ -5,7 +5,7 @@ ghost use Prim.Native.Nat.{_+_, _≤_};
 ghost use lib.ListN.{length};
 ghost use Rattle.chunk.specs.Chunks.{kindNumber, kindAt, isTaken, chunkOf, refusedAt, takenAt, chunkAt, payloadOf, payloadAt};
 ghost use Rattle.chunk.specs.Openings.{openingAt};
-use reading::Reading;
+use reading::Applied;
 use refusal::Cause;
 use refusal::Refusal;
 
@@ -77,7 +77,7 @@ fn kind_at(container: &[u8], place: usize) -> Kind
 }
 
 // Whether the payload of such a chunk is taken.
-fn is_taken(reading: Reading, kind: Kind) -> bool
+fn is_taken(reading: Applied, kind: Kind) -> bool
     ensures { λ r. ⌜ r ≡ isTaken reading kind ⌝ }
 {
     match kind {
@@ -135,7 +135,7 @@ fn taken_at(container: &[u8], place: usize, kind: Kind) -> ChunkStep
 
 // The chunk at a place, or that the chunks end there, or why it is refused. `reading` is how this film is read: where the
 // film has no audio, `reading::applied_to` has said so.
-pub fn chunk_at(container: &[u8], place: usize, reading: Reading) -> ChunkStep
+pub fn chunk_at(container: &[u8], place: usize, reading: Applied) -> ChunkStep
     ensures { λ r. ⌜ r ≡ chunkAt (now (container .entry)) reading place ⌝ }
 {
     let left = word::left_from(container, place);
@@ -164,7 +164,7 @@ pub fn payload_of(container: &[u8], chunk: Chunk) -> &[u8]
 }
 
 // The payload of the chunk at a place: empty where the chunk is skipped or refused, or the chunks end.
-pub fn read_payload(container: &[u8], place: usize, reading: Reading) -> &[u8]
+pub fn read_payload(container: &[u8], place: usize, reading: Applied) -> &[u8]
     ensures { λ r. ⌜ now r ≡ payloadAt (now (container .entry)) reading place ⌝ }
 {
     match chunk_at(container, place, reading) {

@@ -5,14 +5,16 @@ ghost use mathlib.Core.Path.{_≡_};
 ghost use Rattle.film.specs.Films.{surveyOf, filmFrom, filmOf};
 use header::Header;
 use header::HeaderAnswer;
+use reading::Applied;
 use reading::Reading;
 use refusal::Refusal;
 use walk::Measured;
 
-// What is known of a film before a byte of its streams is taken.
+// What is known of a film before a byte of its streams is taken, and how it is read.
 pub enum Surveyed {
     Film {
         header: Header,
+        reading: Applied,
         count: usize,
         video: usize,
         audio: usize,
@@ -32,6 +34,7 @@ fn measure_chunks(container: &[u8], header: Header, reading: Reading) -> Surveye
             audio,
         } => Surveyed::Film {
             header,
+            reading: applied,
             count,
             video,
             audio,

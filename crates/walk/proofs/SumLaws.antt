@@ -5,7 +5,7 @@ use Prim.Native.Nat.{ℕ, _+_, _≤_}
 use native.Mathlib.Omega.{arith}
 use lib.ListN.{length}
 use Rattle.refusal.specs.declared.Refusal.{Refusal}
-use Rattle.reading.specs.declared.Reading.{Reading}
+use Rattle.reading.specs.declared.Applied.{Applied}
 use Rattle.chunk.specs.declared.Chunk.{Chunk}
 use Rattle.chunk.specs.declared.ChunkStep.the-variants.{Over, Found, Refused}
 use Rattle.chunk.specs.Chunks.{chunkAt}
@@ -13,13 +13,13 @@ use Rattle.walk.specs.declared.Measured.the-variants.{Sizes, Stopped}
 use Rattle.walk.specs.Walks.{Walk, clean, stopped, walkFrom, videoIn, audioIn, sizeOf, videoSize, audioSize, measureOf}
 use Rattle.walk.proofs.WalkLaws.{walk-over, walk-found, walk-refused, sizes-fit, count-fits}
 
-pub record Sums (container : List ℕ) (reading : Reading) (start c count video audio : ℕ) : Type 0 where
+pub record Sums (container : List ℕ) (reading : Applied) (start c count video audio : ℕ) : Type 0 where
   pub counted : count + length (walkFrom container reading c .chunks) ≡ length (walkFrom container reading start .chunks)
   pub seen : video + videoSize (walkFrom container reading c .chunks) ≡ videoSize (walkFrom container reading start .chunks)
   pub heard : audio + audioSize (walkFrom container reading c .chunks) ≡ audioSize (walkFrom container reading start .chunks)
   pub ends : walkFrom container reading c .ending ≡ walkFrom container reading start .ending
 
-module _ (container : List ℕ) (reading : Reading) (start : ℕ) where
+module _ (container : List ℕ) (reading : Applied) (start : ℕ) where
   pub sums-start : Sums container reading start start 0 0 0
   sums-start = record { counted = omega arith; seen = omega arith; heard = omega arith; ends = refl }
 

@@ -6,7 +6,7 @@ use Prim.Native.Nat.{ℕ, zero, suc, _+_, _-_, _≤_, _<_}
 use native.Mathlib.Omega.{arith}
 use lib.ListN.{length}
 use Rattle.refusal.specs.declared.Refusal.{Refusal}
-use Rattle.reading.specs.declared.Reading.{Reading}
+use Rattle.reading.specs.declared.Applied.{Applied}
 use Rattle.chunk.specs.declared.Kind.{Kind}
 use Rattle.chunk.specs.declared.Kind.the-variants.{Video, Audio, Other, End}
 use Rattle.chunk.specs.declared.Chunk.{Chunk}
@@ -18,10 +18,10 @@ use Rattle.chunk.proofs.FoundLaws.{found}
 use Rattle.walk.specs.Walks.{clean, stopped, onto, goOn, walkFor, walkFrom, videoIn, audioIn, sizeOf, videoSize, audioSize}
 
 -- each chunk leaves fewer bytes
-pub falls : (container : List ℕ) (reading : Reading) (c : ℕ) (chunk : Chunk) → chunkAt container reading c ≡ Found chunk → length container - chunk .next < length container - c
+pub falls : (container : List ℕ) (reading : Applied) (c : ℕ) (chunk : Chunk) → chunkAt container reading c ≡ Found chunk → length container - chunk .next < length container - c
 falls container reading c chunk e = let w = found container reading c chunk e in omega arith
 
-module _ (container : List ℕ) (reading : Reading) where
+module _ (container : List ℕ) (reading : Applied) where
   -- two numbers of chunks that are no less than the bytes left give one walk
   abbrev Same : ℕ → ℕ → Type 0
   Same m n = (c : ℕ) → length container - c ≤ m → length container - c ≤ n → walkFor container reading m c ≡ walkFor container reading n c
@@ -75,7 +75,7 @@ both-in Other n = omega arith
 both-in End n = omega arith
 
 -- what holds of no chunks, and of a chunk before chunks of which it holds, holds of every walk. Each is told with its place
-module _ (container : List ℕ) (reading : Reading) (Holds : ℕ → List Chunk → Type 0) (none : (c : ℕ) → Holds c [])
+module _ (container : List ℕ) (reading : Applied) (Holds : ℕ → List Chunk → Type 0) (none : (c : ℕ) → Holds c [])
     (more : (c : ℕ) (chunk : Chunk) (chunks : List Chunk) → chunkAt container reading c ≡ Found chunk → Holds (chunk .next) chunks → Holds c (chunk ∷ chunks)) where
   by-step : (n c : ℕ) → ((d : ℕ) → Holds d (walkFor container reading n d .chunks)) → (step : ChunkStep) → chunkAt container reading c ≡ step
       → Holds c (goOn step (walkFor container reading n) .chunks)
@@ -92,7 +92,7 @@ module _ (container : List ℕ) (reading : Reading) (Holds : ℕ → List Chunk 
   unfolding walkFrom
   every-walk c = by-count (length container - c) c
 
-module _ (container : List ℕ) (reading : Reading) where
+module _ (container : List ℕ) (reading : Applied) where
   abbrev Fits : ℕ → List Chunk → Type 0
   Fits c chunks = (videoSize chunks + audioSize chunks ≤ length container - c) × (length chunks ≤ length container - c)
 

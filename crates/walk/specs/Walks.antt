@@ -3,7 +3,7 @@ use Prim.Native.Nat.{ℕ, zero, suc, _+_, _-_}
 use mathlib.Core.List.{List, [], _∷_}
 use lib.ListN.{length}
 use Rattle.refusal.specs.declared.Refusal.{Refusal}
-use Rattle.reading.specs.declared.Reading.{Reading}
+use Rattle.reading.specs.declared.Applied.{Applied}
 use Rattle.chunk.specs.declared.Kind.{Kind}
 use Rattle.chunk.specs.declared.Kind.the-variants.{Video, Audio, Other, End}
 use Rattle.chunk.specs.declared.Chunk.{Chunk}
@@ -33,12 +33,12 @@ goOn (Found chunk) rest = onto chunk (rest (chunk .next))
 goOn (Refused refusal) rest = record { chunks = []; ending = stopped refusal }
 
 -- at most n chunks
-unfoldable pub walkFor : List ℕ → Reading → ℕ → ℕ → Walk
+unfoldable pub walkFor : List ℕ → Applied → ℕ → ℕ → Walk
 walkFor container reading zero c = record { chunks = []; ending = clean }
 walkFor container reading (suc n) c = goOn (chunkAt container reading c) (walkFor container reading n)
 
 -- all chunks from c on: there are no more of them than bytes left. `WalkGoesByChunks` of Promises.antt says that this number cuts no walk short
-unfoldable pub walkFrom : List ℕ → Reading → ℕ → Walk
+unfoldable pub walkFrom : List ℕ → Applied → ℕ → Walk
 walkFrom container reading c = walkFor container reading (length container - c) c
 
 -- "`@SFV` payloads go to video, `@SFA` to audio": how many of a payload's n bytes are the stream's. A skipped chunk's length is 0

@@ -5,7 +5,7 @@ ghost use Prim.Native.Nat.{_≤_};
 ghost use Rattle.walk.specs.Walks.{videoIn, audioIn, walkFrom, measureOf};
 use chunk::ChunkStep;
 use chunk::Kind;
-use reading::Reading;
+use reading::Applied;
 use refusal::Refusal;
 
 // What the chunks come to, or the first refusal.
@@ -61,7 +61,7 @@ fn touched(container: &[u8], at: usize, next: usize) -> usize
 
 // The count of the chunks from a place on and the sizes of both streams, or the first refusal. `reading` is how this film
 // is read, as `chunk::chunk_at` has it.
-pub fn measure(container: &[u8], place: usize, reading: Reading) -> Measured
+pub fn measure(container: &[u8], place: usize, reading: Applied) -> Measured
     ensures { λ r. ⌜ r ≡ measureOf (walkFrom (now (container .entry)) reading place) ⌝ }
 {
     let mut at = place;

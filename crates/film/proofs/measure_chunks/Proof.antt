@@ -18,7 +18,10 @@ enum-known-refusal : tie.Need-enum-known-refusal
 enum-known-refusal c = search needs
 
 returns : tie.Need-returns
-returns c = measured _ _ _ _ _ _ (rw (sym (c .before .before .before .before .applied-to .ensures)) (sym (c .before .before .before .measure .ensures) ∙ c .before .count .given .1))
+returns c =
+    let m = c .before .before .before in
+    let applied = m .before .applied-to .ensures in
+    rw applied (measured _ _ _ _ _ _ (rw (sym applied) (sym (m .measure .ensures) ∙ c .before .count .given .1)))
 
 returns-2 : tie.Need-returns-2
 returns-2 c = not-measured _ _ _ _ (rw (sym (c .before .before .before .before .applied-to .ensures)) (sym (c .before .before .before .measure .ensures) ∙ c .before .refusal .given .1))
