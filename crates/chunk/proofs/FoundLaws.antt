@@ -8,20 +8,21 @@ use native.Mathlib.Omega.{arith}
 use lib.ListN.{length}
 use lib.Dec.{ltb}
 use borrow.Author.Tests.{ltb-false}
-use Rattle.word.specs.Numbers.{be32}
 use Rattle.refusal.specs.declared.Cause.{Cause}
 use Rattle.refusal.specs.declared.Cause.the-variants.{RanOut, TooSmall}
 use Rattle.reading.specs.declared.Applied.{Applied}
+use Rattle.chunk.specs.declared.Opening.{Opening}
 use Rattle.chunk.specs.declared.Chunk.{Chunk}
 use Rattle.chunk.specs.declared.ChunkStep.{ChunkStep}
 use Rattle.chunk.specs.declared.ChunkStep.the-variants.{Over, Found}
-use Rattle.chunk.specs.Chunks.{kindAt, isTaken, spareAt, chunkOf, refusedAt, takenAt, chunkAt}
+use Rattle.chunk.specs.Openings.{openingAt}
+use Rattle.chunk.specs.Chunks.{kindOf, isTaken, chunkOf, refusedAt, presentIn, takenAt, openedAt, chunkAt}
 
 pub record Within (container : List ℕ) (c : ℕ) (chunk : Chunk) : Type 0 where
   pub whole : 45 ≤ length container - c
   pub start : chunk .start ≡ c
   pub typed : chunk .«data_type» < 4
-  pub inside : 0x20 + chunk .len ≤ length container - c
+  pub inside : chunk .payload + chunk .len ≤ length container
   pub past : c + 8 + chunk .len ≤ chunk .next
 
 -- what was found past a test did not stop there
@@ -33,30 +34,31 @@ not-refused : (t : Bool) (c : ℕ) (why : Cause) (chunk : Chunk) (next : ChunkSt
 not-refused true c why chunk next e = let z : _≡_ {A = ℕ} 0 1 = cc in absurd (omega arith)
 not-refused false c why chunk next e = (refl, e)
 
-module _ (container : List ℕ) (c : ℕ) (chunk : Chunk) (enough : 45 ≤ length container - c) where
+module _ (container : List ℕ) (c : ℕ) (chunk : Chunk) (enough : 45 ≤ length container - c) (opening : Opening) (typed : opening .«data_type» < 4) where
   -- the chunk at c with a payload of n bytes
-  of-length : (n : ℕ) → 0x20 + n ≤ length container - c → n ≤ be32 container (c + 4) → Found (chunkOf container c n) ≡ Found chunk → Within container c chunk
+  of-length : (n : ℕ) → c + 0x20 + n ≤ length container → n ≤ opening .block → Found (chunkOf c opening n) ≡ Found chunk → Within container c chunk
   unfolding chunkOf
   of-length n h k e =
-      let f : chunkOf container c n ≡ chunk = cc in
-      rw (← f) (record { whole = enough; start = refl; typed = omega arith; inside = h; past = omega arith })
+      let f : chunkOf c opening n ≡ chunk = cc in
+      rw (← f) (record { whole = enough; start = refl; typed = typed; inside = h; past = omega arith })
 
-  of-taken : takenAt container c ≡ Found chunk → Within container c chunk
-  unfolding takenAt
+  of-taken : takenAt container c opening ≡ Found chunk → Within container c chunk
+  unfolding takenAt presentIn chunkOf
   of-taken e =
-      let a = not-refused (ltb (be32 container (c + 4)) (spareAt container c)) c TooSmall chunk _ e in
-      let b = not-refused (ltb (length container - (c + 0x20)) (be32 container (c + 4) - spareAt container c)) c RanOut chunk _ (a .1) in
-      let g = ltb-false (be32 container (c + 4)) (spareAt container c) (a .0) in
-      let h = ltb-false (length container - (c + 0x20)) (be32 container (c + 4) - spareAt container c) (b .0) in
-      of-length (be32 container (c + 4) - spareAt container c) (omega arith) (omega arith) (b .1)
+      let spare = opening .header + opening .footer in
+      let n = opening .block - spare in
+      let a = not-refused (ltb (opening .block) spare) c TooSmall chunk _ e in
+      let b = not-refused (ltb (length container - (c + 0x20)) n) c RanOut chunk _ (a .1) in
+      let h = ltb-false (length container - (c + 0x20)) n (b .0) in
+      of-length n (omega arith) (omega arith) (b .1)
 
-  of-either : (t : Bool) → cond t (takenAt container c) (Found (chunkOf container c 0)) ≡ Found chunk → Within container c chunk
+  of-either : (t : Bool) → cond t (takenAt container c opening) (Found (chunkOf c opening 0)) ≡ Found chunk → Within container c chunk
   of-either true e = of-taken e
   of-either false e = of-length 0 (omega arith) (omega arith) e
 
 pub found : (container : List ℕ) (reading : Applied) (c : ℕ) (chunk : Chunk) → chunkAt container reading c ≡ Found chunk → Within container c chunk
-unfolding chunkAt
+unfolding chunkAt openedAt openingAt
 found container reading c chunk e =
     let a = not-over (ltb (length container - c) 4) chunk _ e in
     let b = not-refused (ltb (length container - c) 45) c RanOut chunk _ (a .1) in
-    of-either container c chunk (ltb-false (length container - c) 45 (b .0)) (isTaken reading (kindAt container c)) (b .1)
+    of-either container c chunk (ltb-false (length container - c) 45 (b .0)) (openingAt container c) (omega arith) (isTaken reading (kindOf (openingAt container c))) (b .1)

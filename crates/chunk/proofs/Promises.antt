@@ -9,7 +9,7 @@ use Rattle.chunk.proofs.FoundLaws.{found}
 pub PayloadsLieWithin : promised.PayloadsLieWithin
 PayloadsLieWithin container reading c chunk e =
     let w = found container reading c chunk e in
-    let h : chunk .start + 0x20 + chunk .len ≤ length container = omega arith in
+    let h : chunk .payload + chunk .len ≤ length container = w .inside in
     (h, rw (le-leb _ _ h) (simp (length-take, length-drop) (omega arith)))
 
 pub NextLiesAfter : promised.NextLiesAfter

@@ -1,22 +1,23 @@
 -- Document 01, "Chunks": what stands at a place c of a container, and the payload.
-use Prim.Native.Nat.{ℕ, _+_, _-_, _%_}
+use Prim.Native.Nat.{ℕ, _+_, _-_}
 use mathlib.Core.List.{List, []}
 use mathlib.Core.Bool.{Bool, true, false, cond}
 use lib.ListN.{length}
 use lib.Dec.{ltb, eqb}
-use Rattle.laws.specs.Lists.{at}
-use Rattle.word.specs.Numbers.{be16, be32}
+use denote.Ref.{RefT, now}
 use Rattle.refusal.specs.declared.Cause.{Cause}
 use Rattle.refusal.specs.declared.Cause.the-variants.{RanOut, TooSmall}
 use Rattle.reading.specs.declared.Applied.{Applied}
 use Rattle.reading.specs.Choices.{isChosen}
-use Rattle.part.specs.Parts.{partAt}
-use Rattle.signature.specs.Signatures.{SFV, SFA, contentsEnd, standsAt}
+use Rattle.part.specs.Parts.{partAt, IsPart, PartAt}
+use Rattle.signature.specs.Signatures.{SFV, SFA}
 use Rattle.chunk.specs.declared.Kind.{Kind}
 use Rattle.chunk.specs.declared.Kind.the-variants.{Video, Audio, Other, End}
+use Rattle.chunk.specs.declared.Opening.{Opening}
 use Rattle.chunk.specs.declared.Chunk.{Chunk}
 use Rattle.chunk.specs.declared.ChunkStep.{ChunkStep}
 use Rattle.chunk.specs.declared.ChunkStep.the-variants.{Over, Found, Refused}
+use Rattle.chunk.specs.Openings.{openingAt}
 
 -- "kind (`video`, `audio`, `other`, `end`)", numbered in that order
 abbrev pub kindNumber : Kind → ℕ
@@ -26,11 +27,11 @@ kindNumber Other = 2
 kindNumber End = 3
 
 -- "`#CONTENTS END` at c + 0x20 marks an end chunk, skipped. `@SFV` payloads go to video, `@SFA` to audio"; "An end chunk has kind `end` under any letters"
-unfoldable pub kindAt : List ℕ → ℕ → Kind
-kindAt container c =
-    cond (standsAt contentsEnd container (c + 0x20)) End
-    (cond (eqb (be32 container c) SFV) Video
-    (cond (eqb (be32 container c) SFA) Audio Other))
+unfoldable pub kindOf : Opening → Kind
+kindOf opening =
+    cond (opening .marked) End
+    (cond (eqb (opening .letters) SFV) Video
+    (cond (eqb (opening .letters) SFA) Audio Other))
 
 -- "`@SFV` payloads go to video, `@SFA` to audio if present and chosen; others are skipped"
 abbrev pub isTaken : Applied → Kind → Bool
@@ -39,42 +40,48 @@ isTaken reading Audio = isChosen (reading .audio)
 isTaken reading Other = false
 isTaken reading End = false
 
--- "header size u16 at 8, footer size u16 at 10"
-abbrev pub spareAt : List ℕ → ℕ → ℕ
-spareAt container c = be16 container (c + 8) + be16 container (c + 10)
-
--- "Block size u32 at 4, .. data type = byte 15 mod 4, next at c + 8 + block size." n is the payload's length
-unfoldable pub chunkOf : List ℕ → ℕ → ℕ → Chunk
-chunkOf container c n = record { start = c; kind = kindAt container c; «data_type» = at container (c + 15) % 4; len = n; next = c + 8 + be32 container (c + 4) }
+-- "next at c + 8 + block size. .. The payload starts at c + 0x20 whatever the header size says". n is the payload's length
+unfoldable pub chunkOf : ℕ → Opening → ℕ → Chunk
+chunkOf c opening n = record { start = c; kind = kindOf opening; «data_type» = opening .«data_type»; payload = c + 0x20; len = n; next = c + 8 + opening .block }
 
 -- "the start of the block being read"
 abbrev pub refusedAt : ℕ → Cause → ChunkStep
 refusedAt c why = Refused (record { cause = why; place = c })
 
--- "The payload starts at c + 0x20 whatever the header size says; its length is block size - header - footer (9), present in full (1)."
-unfoldable pub takenAt : List ℕ → ℕ → ChunkStep
-takenAt container c =
-    cond (ltb (be32 container (c + 4)) (spareAt container c)) (refusedAt c TooSmall)
-    (cond (ltb (length container - (c + 0x20)) (be32 container (c + 4) - spareAt container c)) (refusedAt c RanOut)
-    (Found (chunkOf container c (be32 container (c + 4) - spareAt container c))))
+-- a payload is "present in full (1)"
+unfoldable pub presentIn : List ℕ → Chunk → ChunkStep
+presentIn container chunk = cond (ltb (length container - chunk .payload) (chunk .len)) (refusedAt (chunk .start) RanOut) (Found chunk)
 
--- "At c, fewer than 4 bytes left: clean end. .. 4 to 44 left: 1."; "others are skipped with no size check"; "payload length (0 if skipped)"
+-- "its length is block size - header - footer (9), present in full (1)."
+unfoldable pub takenAt : List ℕ → ℕ → Opening → ChunkStep
+takenAt container c opening =
+    cond (ltb (opening .block) (opening .header + opening .footer)) (refusedAt c TooSmall)
+    (presentIn container (chunkOf c opening (opening .block - (opening .header + opening .footer))))
+
+-- "others are skipped with no size check"; "payload length (0 if skipped)"
+unfoldable pub openedAt : List ℕ → Applied → ℕ → Opening → ChunkStep
+openedAt container reading c opening = cond (isTaken reading (kindOf opening)) (takenAt container c opening) (Found (chunkOf c opening 0))
+
+-- "At c, fewer than 4 bytes left: clean end. .. 4 to 44 left: 1."
 unfoldable pub chunkAt : List ℕ → Applied → ℕ → ChunkStep
 chunkAt container reading c =
     cond (ltb (length container - c) 4) Over
     (cond (ltb (length container - c) 45) (refusedAt c RanOut)
-    (cond (isTaken reading (kindAt container c)) (takenAt container c)
-    (Found (chunkOf container c 0))))
+    (openedAt container reading c (openingAt container c)))
 
--- "The payload starts at c + 0x20"
+-- a payload's bytes
 abbrev pub payloadOf : List ℕ → Chunk → List ℕ
-payloadOf container chunk = partAt container (chunk .start + 0x20) (chunk .len)
+payloadOf container chunk = partAt container (chunk .payload) (chunk .len)
 
--- "Applied one hands back the payload as a part of the container, empty if skipped." Refused, or past the last chunk, there is none
-abbrev pub payloadIn : List ℕ → ChunkStep → List ℕ
-payloadIn container Over = []
-payloadIn container (Found chunk) = payloadOf container chunk
-payloadIn container (Refused refusal) = []
+-- r is the payload: "Reading one hands back the payload as a part of the container, empty if skipped."
+abbrev pub PayloadOf : RefT (List ℕ) → Chunk → RefT (List ℕ) → Type 0
+PayloadOf container chunk r = PartAt container (chunk .payload) (chunk .len) r
 
-abbrev pub payloadAt : List ℕ → Applied → ℕ → List ℕ
-payloadAt container reading c = payloadIn container (chunkAt container reading c)
+-- refused, or past the last chunk, there is none: r is the empty part at byte 0
+abbrev pub PayloadIn : RefT (List ℕ) → ChunkStep → RefT (List ℕ) → Type 0
+PayloadIn container Over r = IsPart container 0 [] r
+PayloadIn container (Found chunk) r = PayloadOf container chunk r
+PayloadIn container (Refused refusal) r = IsPart container 0 [] r
+
+abbrev pub PayloadAt : RefT (List ℕ) → Applied → ℕ → RefT (List ℕ) → Type 0
+PayloadAt container reading c r = PayloadIn container (chunkAt (now container) reading c) r

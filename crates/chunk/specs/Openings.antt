@@ -1,7 +1,20 @@
--- The opening of a chunk: the bytes that every chunk has, "4 to 44 left: 1". It serves the contract of `opening_at`; the rules do not name it.
-use Prim.Native.Nat.{ℕ}
+-- Document 01, "Chunks": what the opening of a chunk at c says. It has the 45 bytes that every chunk has.
+use Prim.Native.Nat.{ℕ, _+_, _%_}
 use mathlib.Core.List.{List}
-use lib.ListN.{take, drop}
+use Rattle.laws.specs.Lists.{at}
+use Rattle.word.specs.Numbers.{be16, be32}
+use Rattle.signature.specs.Signatures.{contentsEnd, standsAt}
+use Rattle.chunk.specs.declared.Opening.{Opening}
 
-unfoldable pub openingAt : List ℕ → ℕ → List ℕ
-openingAt container c = take 45 (drop c container)
+-- "Block size u32 at 4, header size u16 at 8, footer size u16 at 10, data type = byte 15 mod 4"; "`#CONTENTS END` at c + 0x20 marks an end chunk". Byte 12 is the channel
+unfoldable pub openingAt : List ℕ → ℕ → Opening
+openingAt container c =
+    record {
+      letters = be32 container c;
+      block = be32 container (c + 4);
+      header = be16 container (c + 8);
+      footer = be16 container (c + 10);
+      channel = at container (c + 12);
+      «data_type» = at container (c + 15) % 4;
+      marked = standsAt contentsEnd container (c + 0x20);
+    }

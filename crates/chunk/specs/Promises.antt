@@ -12,7 +12,7 @@ use Rattle.chunk.specs.Chunks.{chunkAt, payloadOf}
 abbrev pub PayloadsLieWithin : Type 0
 PayloadsLieWithin =
     (container : List ℕ) (reading : Applied) (c : ℕ) (chunk : Chunk) → chunkAt container reading c ≡ Found chunk
-    → (chunk .start + 0x20 + chunk .len ≤ length container) × (length (payloadOf container chunk) ≡ chunk .len)
+    → (chunk .payload + chunk .len ≤ length container) × (length (payloadOf container chunk) ≡ chunk .len)
 
 -- It starts at the place that was asked, and the next one at least 8 bytes further on: so every walk ends.
 abbrev pub NextLiesAfter : Type 0

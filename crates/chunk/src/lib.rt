@@ -1,10 +1,10 @@
 // One chunk of a container, and its payload as a part of the container. Document 01, "Chunks".
 // From the Rust: `read_chunk_header`, `read_data_len`, and which chunks `extract_usm_chunks_to_memory` takes.
 ghost use mathlib.Core.Path.{_≡_};
-ghost use Prim.Native.Nat.{_+_, _≤_};
+ghost use Prim.Native.Nat.{_+_, _≤_, _<_, _^_};
 ghost use lib.ListN.{length};
-ghost use Rattle.chunk.specs.Chunks.{kindNumber, kindAt, isTaken, chunkOf, refusedAt, takenAt, chunkAt, payloadOf, payloadAt};
 ghost use Rattle.chunk.specs.Openings.{openingAt};
+ghost use Rattle.chunk.specs.Chunks.{kindNumber, kindOf, isTaken, chunkOf, refusedAt, takenAt, openedAt, chunkAt, PayloadOf, PayloadAt};
 use reading::Applied;
 use refusal::Cause;
 use refusal::Refusal;
@@ -17,11 +17,24 @@ pub enum Kind {
     End,
 }
 
-// A chunk: where it starts, what it is, its data type, how long its payload is (0 if it is skipped), where the next one starts.
+// What the opening of a chunk says: its letters, its sizes, its channel, its data type, and whether the end marker stands inside.
+pub struct Opening {
+    pub letters: u32,
+    pub block: u32,
+    pub header: u16,
+    pub footer: u16,
+    pub channel: u8,
+    pub data_type: u8,
+    pub marked: bool,
+}
+
+// A chunk: where it starts, what it is, its data type, where its payload starts and how long that is (0 if it is skipped),
+// where the next one starts.
 pub struct Chunk {
     pub start: usize,
     pub kind: Kind,
     pub data_type: u8,
+    pub payload: usize,
     pub len: usize,
     pub next: usize,
 }
@@ -48,29 +61,42 @@ pub fn kind_number(kind: Kind) -> u8
     }
 }
 
-// The opening of the chunk at a place. Reads of a part whose length is known need no test that the bytes are there.
-fn opening_at(container: &[u8], place: usize) -> &[u8]
-    requires { ⌜ place + 45 ≤ length (now container) ⌝ }
-    ensures { λ r. ⌜ now r ≡ openingAt (now (container .entry)) place ⌝ }
+// The opening of the chunk that some bytes begin with.
+fn opening_of(bytes: &[u8]) -> Opening
+    ensures { λ r. ⌜ r ≡ openingAt (now (bytes .entry)) 0 ⌝ }
 {
-    let end = place + OPENING;
-    &container[place..end]
+    Opening {
+        letters: word::read32(bytes, 0) as u32,
+        block: word::read32(bytes, 4) as u32,
+        header: word::read16(bytes, 8) as u16,
+        footer: word::read16(bytes, 10) as u16,
+        channel: word::read8(bytes, 12) as u8,
+        data_type: (word::read8(bytes, 15) % 4) as u8,
+        marked: signature::stands_at(b"#CONTENTS END", bytes, signature::INSIDE),
+    }
 }
 
-// What the chunk at a place is.
-fn kind_at(container: &[u8], place: usize) -> Kind
+// The opening of the chunk at a place. Reads of a part whose length is known need no test that the bytes are there.
+fn opening_at(container: &[u8], place: usize) -> Opening
     requires { ⌜ place + 45 ≤ length (now container) ⌝ }
-    ensures { λ r. ⌜ r ≡ kindAt (now (container .entry)) place ⌝ }
+    ensures { λ r. ⌜ r ≡ openingAt (now (container .entry)) place ⌝ }
 {
-    let opening = opening_at(container, place);
-    if signature::stands_at(b"#CONTENTS END", opening, signature::INSIDE) {
+    let end = place + OPENING;
+    opening_of(&container[place..end])
+}
+
+// What the chunk of an opening is.
+fn kind_of(opening: Opening) -> Kind
+    ensures { λ r. ⌜ r ≡ kindOf opening ⌝ }
+{
+    if opening.marked {
         return Kind::End;
     }
-    let name = word::read32(opening, 0);
-    if name == signature::SFV {
+    let letters = opening.letters as usize;
+    if letters == signature::SFV {
         return Kind::Video;
     }
-    if name == signature::SFA {
+    if letters == signature::SFA {
         return Kind::Audio;
     }
     Kind::Other
@@ -91,20 +117,18 @@ fn is_taken(reading: Applied, kind: Kind) -> bool
     }
 }
 
-// The chunk of a kind at a place, with a payload of a length.
-fn chunk_of(container: &[u8], place: usize, kind: Kind, len: usize) -> Chunk
-    requires { ⌜ (place + 45 ≤ length (now container)) × (kind ≡ kindAt (now container) place) ⌝ }
-    ensures { λ r. ⌜ r ≡ chunkOf (now (container .entry)) place len ⌝ }
+// The chunk of an opening at a place, with a payload of a length.
+fn chunk_of(place: usize, opening: Opening, len: usize) -> Chunk
+    requires { ⌜ place < 2 ^ 63 ⌝ }
+    ensures { λ r. ⌜ r ≡ chunkOf place opening len ⌝ }
 {
-    let opening = opening_at(container, place);
-    let data_type = opening[15] % 4;
-    let next = place + 8 + word::read32(opening, 4);
     Chunk {
         start: place,
-        kind,
-        data_type,
+        kind: kind_of(opening),
+        data_type: opening.data_type,
+        payload: place + signature::INSIDE,
         len,
-        next,
+        next: place + 8 + opening.block as usize,
     }
 }
 
@@ -116,21 +140,31 @@ fn refused(cause: Cause, place: usize) -> ChunkStep
 }
 
 // The chunk at a place, whose payload is taken: it has to be there in full.
-fn taken_at(container: &[u8], place: usize, kind: Kind) -> ChunkStep
-    requires { ⌜ (place + 45 ≤ length (now container)) × (kind ≡ kindAt (now container) place) ⌝ }
-    ensures { λ r. ⌜ r ≡ takenAt (now (container .entry)) place ⌝ }
+fn taken_at(container: &[u8], place: usize, opening: Opening) -> ChunkStep
+    requires { ⌜ place < 2 ^ 63 ⌝ }
+    ensures { λ r. ⌜ r ≡ takenAt (now (container .entry)) place opening ⌝ }
 {
-    let opening = opening_at(container, place);
-    let block = word::read32(opening, 4);
-    let spare = word::read16(opening, 8) + word::read16(opening, 10);
+    let block = opening.block as usize;
+    let spare = opening.header as usize + opening.footer as usize;
     if block < spare {
         return refused(Cause::TooSmall, place);
     }
-    let len = block - spare;
-    if word::left_from(container, place + signature::INSIDE) < len {
+    let chunk = chunk_of(place, opening, block - spare);
+    if word::left_from(container, chunk.payload) < chunk.len {
         return refused(Cause::RanOut, place);
     }
-    ChunkStep::Found(chunk_of(container, place, kind, len))
+    ChunkStep::Found(chunk)
+}
+
+// The chunk at a place, by its opening: a payload that is not taken is not looked at.
+fn opened_at(container: &[u8], place: usize, reading: Applied, opening: Opening) -> ChunkStep
+    requires { ⌜ place < 2 ^ 63 ⌝ }
+    ensures { λ r. ⌜ r ≡ openedAt (now (container .entry)) reading place opening ⌝ }
+{
+    if is_taken(reading, kind_of(opening)) {
+        return taken_at(container, place, opening);
+    }
+    ChunkStep::Found(chunk_of(place, opening, 0))
 }
 
 // The chunk at a place, or that the chunks end there, or why it is refused. `reading` is how this film is read: where the
@@ -145,27 +179,19 @@ pub fn chunk_at(container: &[u8], place: usize, reading: Applied) -> ChunkStep
     if left < OPENING {
         return refused(Cause::RanOut, place);
     }
-    let kind = kind_at(container, place);
-    if is_taken(reading, kind) {
-        return taken_at(container, place, kind);
-    }
-    ChunkStep::Found(chunk_of(container, place, kind, 0))
+    opened_at(container, place, reading, opening_at(container, place))
 }
 
-// The payload of a chunk, a part of the container; its empty part where the container does not hold that much.
+// The payload of a chunk, a part of the container; its empty part at byte 0 where the container does not hold that much.
 pub fn payload_of(container: &[u8], chunk: Chunk) -> &[u8]
-    ensures { λ r. ⌜ now r ≡ payloadOf (now (container .entry)) chunk ⌝ }
+    ensures { λ r. ⌜ PayloadOf (container .entry) chunk r ⌝ }
 {
-    let start = chunk.start;
-    if word::left_from(container, start) < signature::INSIDE {
-        return &container[0..0];
-    }
-    part::part_at(container, start + signature::INSIDE, chunk.len)
+    part::part_at(container, chunk.payload, chunk.len)
 }
 
 // The payload of the chunk at a place: empty where the chunk is skipped or refused, or the chunks end.
 pub fn read_payload(container: &[u8], place: usize, reading: Applied) -> &[u8]
-    ensures { λ r. ⌜ now r ≡ payloadAt (now (container .entry)) reading place ⌝ }
+    ensures { λ r. ⌜ PayloadAt (container .entry) reading place r ⌝ }
 {
     match chunk_at(container, place, reading) {
         ChunkStep::Over => &container[0..0],

@@ -1,6 +1,5 @@
 -- `chunk::read_payload` meets its contract, by cases of the step. Assumes nothing.
-use mathlib.Core.Path.{sym, ap, _∙_}
-use Rattle.chunk.specs.Chunks.{payloadIn}
+use mathlib.Core.Path.{refl, sym, _∙_}
 use borrow.Author.Needs.{needs}
 use Rattle.chunk.proofs.read_payload.Statement.{statement}
 use Rattle.chunk.proofs.read_payload.Tie as tie
@@ -41,17 +40,17 @@ part-result-end-2 c = search needs
 returns : tie.Need-returns
 returns c =
     let t = c .before in
-    sym (ap (payloadIn _) (sym (t .before .before .chunk-at .ensures) ∙ t .enum-told .given .1))
+    rw (sym (t .before .before .chunk-at .ensures) ∙ t .enum-told .given .1) (refl, refl, refl)
 
 returns-2 : tie.Need-returns-2
 returns-2 c =
     let k = c .before .before in
-    c .payload-of .ensures ∙ sym (ap (payloadIn _) (sym (k .before .before .chunk-at .ensures) ∙ k .chunk .given .1))
+    rw (sym (k .before .before .chunk-at .ensures) ∙ k .chunk .given .1) (c .payload-of .ensures)
 
 returns-3 : tie.Need-returns-3
 returns-3 c =
     let t = c .before in
-    sym (ap (payloadIn _) (sym (t .before .before .chunk-at .ensures) ∙ t .enum-told2 .given .1))
+    rw (sym (t .before .before .chunk-at .ensures) ∙ t .enum-told2 .given .1) (refl, refl, refl)
 
 pub read-payload-spec : {M : Type 1} → statement M
 read-payload-spec =
