@@ -1,5 +1,5 @@
--- What is known of a chunk that was found: it has its 45 bytes, its data type is below 4, its payload is in the container, and the next place lies past both.
--- Assumes nothing.
+-- What is known of a chunk that was found: it has its 45 bytes, its data type is below 4, its payload lies behind its first 8 bytes and in the container, and the
+-- next place lies past its length. Assumes nothing.
 use mathlib.Core.Path.{_≡_, refl}
 use mathlib.Core.List.{List}
 use mathlib.Core.Bool.{Bool, true, false, cond}
@@ -22,6 +22,7 @@ pub record Within (container : List ℕ) (c : ℕ) (chunk : Chunk) : Type 0 wher
   pub whole : 45 ≤ length container - c
   pub start : chunk .start ≡ c
   pub typed : chunk .«data_type» < 4
+  pub behind : c + 8 ≤ chunk .payload
   pub inside : chunk .payload + chunk .len ≤ length container
   pub past : c + 8 + chunk .len ≤ chunk .next
 
@@ -40,7 +41,7 @@ module _ (container : List ℕ) (c : ℕ) (chunk : Chunk) (enough : 45 ≤ lengt
   unfolding chunkOf
   of-length n h k e =
       let f : chunkOf c opening n ≡ chunk = cc in
-      rw (← f) (record { whole = enough; start = refl; typed = typed; inside = h; past = omega arith })
+      rw (← f) (record { whole = enough; start = refl; typed = typed; behind = omega arith; inside = h; past = omega arith })
 
   of-taken : takenAt container c opening ≡ Found chunk → Within container c chunk
   unfolding takenAt presentIn chunkOf

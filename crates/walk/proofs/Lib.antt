@@ -1,5 +1,7 @@
 pub mod WalkLaws
+pub mod LoopLaws
 pub mod SumLaws
+pub mod PutLaws
 pub mod OneAnswer
 pub mod Promises
 pub mod Example

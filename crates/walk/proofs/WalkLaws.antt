@@ -22,7 +22,7 @@ pub falls : (container : List ℕ) (reading : Applied) (c : ℕ) (chunk : Chunk)
 falls container reading c chunk e = let w = found container reading c chunk e in omega arith
 
 module _ (container : List ℕ) (reading : Applied) where
-  -- two numbers of chunks that are no less than the bytes left give one walk
+  -- two numbers of chunks that are no less than the bytes left give the same walk
   abbrev Same : ℕ → ℕ → Type 0
   Same m n = (c : ℕ) → length container - c ≤ m → length container - c ≤ n → walkFor container reading m c ≡ walkFor container reading n c
 
@@ -74,7 +74,7 @@ both-in Audio n = omega arith
 both-in Other n = omega arith
 both-in End n = omega arith
 
--- what holds of no chunks, and of a chunk before chunks of which it holds, holds of every walk. Each is told with its place
+-- what holds of no chunks, and of a chunk before chunks of which it holds, holds of every walk. Each is stated with its place
 module _ (container : List ℕ) (reading : Applied) (Holds : ℕ → List Chunk → Type 0) (none : (c : ℕ) → Holds c [])
     (more : (c : ℕ) (chunk : Chunk) (chunks : List Chunk) → chunkAt container reading c ≡ Found chunk → Holds (chunk .next) chunks → Holds c (chunk ∷ chunks)) where
   by-step : (n c : ℕ) → ((d : ℕ) → Holds d (walkFor container reading n d .chunks)) → (step : ChunkStep) → chunkAt container reading c ≡ step

@@ -1,6 +1,6 @@
 -- Document 01, "Chunks": the chunks of a container from a place on, how they end, and what they come to.
 use Prim.Native.Nat.{ℕ, zero, suc, _+_, _-_}
-use mathlib.Core.List.{List, [], _∷_}
+use mathlib.Core.List.{List, [], _∷_, _++_}
 use lib.ListN.{length}
 use Rattle.refusal.specs.declared.Refusal.{Refusal}
 use Rattle.reading.specs.declared.Applied.{Applied}
@@ -40,6 +40,11 @@ walkFor container reading (suc n) c = goOn (chunkAt container reading c) (walkFo
 -- all chunks from c on: there are no more of them than bytes left. `WalkGoesByChunks` of Promises.antt says that this number cuts no walk short
 unfoldable pub walkFrom : List ℕ → Applied → ℕ → Walk
 walkFrom container reading c = walkFor container reading (length container - c) c
+
+-- what each chunk gives, one after the other
+unfoldable pub joined : {A : Type 0} → (Chunk → List A) → List Chunk → List A
+joined piece [] = []
+joined piece (chunk ∷ chunks) = piece chunk ++ joined piece chunks
 
 -- "`@SFV` payloads go to video, `@SFA` to audio": how many of a payload's n bytes are the stream's. A skipped chunk's length is 0
 abbrev pub videoIn : Kind → ℕ → ℕ

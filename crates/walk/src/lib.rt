@@ -1,7 +1,8 @@
 // The chunks of a container, one after the other: how many there are, and how many bytes both streams have.
 // Document 01, "Chunks". From the Rust: the loop of `extract_usm_chunks_to_memory`.
+mod ahead;
+
 ghost use mathlib.Core.Path.{_≡_};
-ghost use Prim.Native.Nat.{_≤_};
 ghost use Rattle.walk.specs.Walks.{videoIn, audioIn, walkFrom, measureOf};
 use chunk::ChunkStep;
 use chunk::Kind;
@@ -42,23 +43,6 @@ fn audio_in(kind: Kind, len: usize) -> usize
     }
 }
 
-// How many chunks ahead a byte is touched.
-const AHEAD: usize = 8;
-
-// A bit of the byte at which a chunk starts some chunks after the next one, if all are as long as the one from `at` to
-// `next`. Where a chunk stands is told only by the one before, so a walk waits for the memory at each of them, unless a
-// byte there was touched in time.
-fn touched(container: &[u8], at: usize, next: usize) -> usize
-    requires { ⌜ at ≤ next ⌝ }
-    ensures { λ r. ⌜ r ≤ 1 ⌝ }
-{
-    let apart = next - at;
-    if word::left_from(container, next) / AHEAD < apart {
-        return 0;
-    }
-    word::read8(container, next + AHEAD * apart) / 128
-}
-
 // The count of the chunks from a place on and the sizes of both streams, or the first refusal. `reading` is how this film
 // is read, as `chunk::chunk_at` has it.
 pub fn measure(container: &[u8], place: usize, reading: Applied) -> Measured
@@ -72,16 +56,8 @@ pub fn measure(container: &[u8], place: usize, reading: Applied) -> Measured
     loop {
         match chunk::chunk_at(container, at, reading) {
             ChunkStep::Over => {
-                // Never so. Without this the compiler would drop the bytes that are touched, and all the time that they save.
-                if count < bits {
-                    return Measured::Sizes {
-                        count: bits,
-                        video,
-                        audio,
-                    };
-                }
                 return Measured::Sizes {
-                    count,
+                    count: ahead::kept(count, bits),
                     video,
                     audio,
                 };
@@ -91,7 +67,7 @@ pub fn measure(container: &[u8], place: usize, reading: Applied) -> Measured
                 count += 1;
                 video += video_in(kind, chunk.len);
                 audio += audio_in(kind, chunk.len);
-                bits += touched(container, at, chunk.next);
+                bits += ahead::touched(container, at, chunk.next);
                 at = chunk.next;
             }
             ChunkStep::Refused(refusal) => {

@@ -3,22 +3,23 @@
 use mathlib.Core.Path.{sym, _∙_}
 use Prim.Native.Nat.{_-_, _≤_}
 use native.Mathlib.Omega.{arith}
-use borrow.Author.Needs.{needs}
 use lib.ListN.{length}
 use Rattle.chunk.proofs.FoundLaws.{found}
 use Rattle.walk.proofs.WalkLaws.{falls}
-use Rattle.walk.proofs.SumLaws.{Sums, sums-start, sums-fit, sums-over, sums-found, sums-refused}
+use Rattle.walk.proofs.LoopLaws.{loop-starts}
+use Rattle.walk.proofs.SumLaws.{sums, Counting, sums-over, sums-found, found-fits, sums-refused}
+use borrow.Author.Needs.{needs}
 use Rattle.walk.proofs.measure.Statement.{statement}
 use Rattle.walk.proofs.measure.Tie as tie
 
 abbrev Inv-loop : tie.InvT-loop
-Inv-loop container place reading at₀ count₀ video₀ audio₀ bits₀ at count video audio bits = Sums container reading place at count video audio × (bits ≤ count)
+Inv-loop container place reading at₀ count₀ video₀ audio₀ bits₀ at count video audio bits = Counting container reading place at (sums count video audio) × (bits ≤ count)
 
 abbrev μ-loop : tie.MeasureT-loop
 μ-loop container place reading at₀ count₀ video₀ audio₀ bits₀ at count video audio bits = length container - at
 
 loop-holds : tie.Need-loop-holds Inv-loop μ-loop
-loop-holds c = (sums-start _ _ _, omega arith)
+loop-holds c = (loop-starts _ _ _ _ _, omega arith)
 
 chunk-at-requires : tie.Need-chunk-at-requires Inv-loop μ-loop
 chunk-at-requires c κs = search needs
@@ -26,78 +27,71 @@ chunk-at-requires c κs = search needs
 enum-told : tie.Need-enum-told Inv-loop μ-loop
 enum-told c = search needs
 
-returns : tie.Need-returns Inv-loop μ-loop
-returns c = absurd (omega (arith, c .if1 .taken, c .before .before .before .before .loop .inv .1))
+kept-requires : tie.Need-kept-requires Inv-loop μ-loop
+kept-requires c κs = search needs
 
-returns-2 : tie.Need-returns-2 Inv-loop μ-loop
-returns-2 c =
-    let s = c .before .before .before in
-    sums-over _ _ _ _ _ _ _ (s .before .loop .inv .0) (sym (s .chunk-at .ensures) ∙ c .before .enum-told .given .1)
+returns : tie.Need-returns Inv-loop μ-loop
+returns c =
+    let step = c .before .before .before in
+    rw (c .kept .ensures) (sums-over _ _ _ _ _ (step .before .loop .inv .0) (sym (step .chunk-at .ensures) ∙ c .before .enum-told .given .1))
 
 enum-known-chunk : tie.Need-enum-known-chunk Inv-loop μ-loop
 enum-known-chunk c = search needs
 
 add-count : tie.Need-add-count Inv-loop μ-loop
 add-count c =
-    let k = c .before in
-    let s = k .before .before in
-    let sums = sums-found _ _ _ _ _ _ _ (s .before .loop .inv .0) (k .chunk .given .0 .0) (sym (s .chunk-at .ensures) ∙ k .chunk .given .1) in
-    omega (arith, sums-fit _ _ _ _ _ _ _ sums)
+    let known = c .before in
+    let step = known .before .before in
+    omega (arith, found-fits _ _ _ _ _ (step .before .loop .inv .0) _ (sym (step .chunk-at .ensures) ∙ known .chunk .given .1))
 
 video-in-requires : tie.Need-video-in-requires Inv-loop μ-loop
 video-in-requires c κs = search needs
 
 add-video : tie.Need-add-video Inv-loop μ-loop
 add-video c =
-    let k = c .before .before in
-    let s = k .before .before in
-    let sums = sums-found _ _ _ _ _ _ _ (s .before .loop .inv .0) (k .chunk .given .0 .0) (sym (s .chunk-at .ensures) ∙ k .chunk .given .1) in
-    omega (arith, sums-fit _ _ _ _ _ _ _ sums)
+    let known = c .before .before in
+    let step = known .before .before in
+    omega (arith, found-fits _ _ _ _ _ (step .before .loop .inv .0) _ (sym (step .chunk-at .ensures) ∙ known .chunk .given .1))
 
 audio-in-requires : tie.Need-audio-in-requires Inv-loop μ-loop
 audio-in-requires c κs = search needs
 
 add-audio : tie.Need-add-audio Inv-loop μ-loop
 add-audio c =
-    let k = c .before .before .before in
-    let s = k .before .before in
-    let sums = sums-found _ _ _ _ _ _ _ (s .before .loop .inv .0) (k .chunk .given .0 .0) (sym (s .chunk-at .ensures) ∙ k .chunk .given .1) in
-    omega (arith, sums-fit _ _ _ _ _ _ _ sums)
+    let known = c .before .before .before in
+    let step = known .before .before in
+    omega (arith, found-fits _ _ _ _ _ (step .before .loop .inv .0) _ (sym (step .chunk-at .ensures) ∙ known .chunk .given .1))
 
 touched-requires : tie.Need-touched-requires Inv-loop μ-loop
 touched-requires c κs =
-    let k = c .before .before .before in
-    let s = k .before .before in
-    omega (arith, found _ _ _ _ (sym (s .chunk-at .ensures) ∙ k .chunk .given .1) .past)
+    let known = c .before .before .before in
+    omega (arith, found _ _ _ _ (sym (known .before .before .chunk-at .ensures) ∙ known .chunk .given .1) .past)
 
 add-bits : tie.Need-add-bits Inv-loop μ-loop
 add-bits c =
-    let k = c .before .before .before .before in
-    let s = k .before .before in
-    let sums = sums-found _ _ _ _ _ _ _ (s .before .loop .inv .0) (k .chunk .given .0 .0) (sym (s .chunk-at .ensures) ∙ k .chunk .given .1) in
-    omega (arith, sums-fit _ _ _ _ _ _ _ sums, s .before .loop .inv .1, c .touched .ensures)
+    let known = c .before .before .before .before in
+    let step = known .before .before in
+    omega (arith, found-fits _ _ _ _ _ (step .before .loop .inv .0) _ (sym (step .chunk-at .ensures) ∙ known .chunk .given .1))
 
 loop-less : tie.Need-loop-less Inv-loop μ-loop
 loop-less c =
-    let k = c .before .before .before .before in
-    let s = k .before .before in
-    falls _ _ _ _ (sym (s .chunk-at .ensures) ∙ k .chunk .given .1)
+    let known = c .before .before .before .before in
+    falls _ _ _ _ (sym (known .before .before .chunk-at .ensures) ∙ known .chunk .given .1)
 
 loop-again : tie.Need-loop-again Inv-loop μ-loop
 loop-again c =
-    let k = c .before .before .before .before in
-    let s = k .before .before in
-    let sums = sums-found _ _ _ _ _ _ _ (s .before .loop .inv .0) (k .chunk .given .0 .0) (sym (s .chunk-at .ensures) ∙ k .chunk .given .1) in
-    (rw (c .before .before .video-in .ensures, c .before .audio-in .ensures) sums, omega (arith, s .before .loop .inv .1, c .touched .ensures))
+    let known = c .before .before .before .before in
+    let step = known .before .before in
+    (rw (c .before .before .video-in .ensures, c .before .audio-in .ensures) (sums-found _ _ _ _ _ (step .before .loop .inv .0) _ (sym (step .chunk-at .ensures) ∙ known .chunk .given .1)), omega arith)
 
 enum-known-refusal : tie.Need-enum-known-refusal Inv-loop μ-loop
 enum-known-refusal c = search needs
 
-returns-3 : tie.Need-returns-3 Inv-loop μ-loop
-returns-3 c =
-    let k = c .before in
-    let s = k .before .before in
-    sums-refused _ _ _ _ _ _ _ (s .before .loop .inv .0) (k .refusal .given .0 .0) (sym (s .chunk-at .ensures) ∙ k .refusal .given .1)
+returns-2 : tie.Need-returns-2 Inv-loop μ-loop
+returns-2 c =
+    let known = c .before in
+    let step = known .before .before in
+    sums-refused _ _ _ _ _ (step .before .loop .inv .0) _ (sym (step .chunk-at .ensures) ∙ known .refusal .given .1)
 
 pub measure-spec : {M : Type 1} → statement M
 measure-spec =
@@ -108,8 +102,8 @@ measure-spec =
     loop-holds
     chunk-at-requires
     enum-told
+    kept-requires
     returns
-    returns-2
     enum-known-chunk
     add-count
     video-in-requires
@@ -121,4 +115,4 @@ measure-spec =
     loop-less
     loop-again
     enum-known-refusal
-    returns-3)
+    returns-2)
