@@ -2,14 +2,10 @@
 use mathlib.Core.Path.{_≡_}
 use Rattle.laws.proofs.OneAnswer.{no-second-answer}
 use Rattle.refusal.proofs.number_of.Reads as number-of
-use Rattle.refusal.proofs.first_value.Reads as first-value
-use Rattle.refusal.proofs.second_value.Reads as second-value
+use Rattle.refusal.proofs.beside_of.Reads as beside-of
 
 pub number-of-once : (κs : _) (args : _) (r r′ : _) (exit exit′ : _) → number-of.Learnt κs args r exit → number-of.Learnt κs args r′ exit′ → r ≡ r′
 number-of-once κs args r r′ exit exit′ = no-second-answer
 
-pub first-value-once : (κs : _) (args : _) (r r′ : _) (exit exit′ : _) → first-value.Learnt κs args r exit → first-value.Learnt κs args r′ exit′ → r ≡ r′
-first-value-once κs args r r′ exit exit′ = no-second-answer
-
-pub second-value-once : (κs : _) (args : _) (r r′ : _) (exit exit′ : _) → second-value.Learnt κs args r exit → second-value.Learnt κs args r′ exit′ → r ≡ r′
-second-value-once κs args r r′ exit exit′ = no-second-answer
+pub beside-of-once : (κs : _) (args : _) (r r′ : _) (exit exit′ : _) → beside-of.Learnt κs args r exit → beside-of.Learnt κs args r′ exit′ → r ≡ r′
+beside-of-once κs args r r′ exit exit′ = no-second-answer

@@ -1,5 +1,6 @@
 -- Document 01, "Refusal numbers": the number of each cause, and what is "also returned".
 use Prim.Native.Nat.{ℕ}
+use Rattle.refusal.specs.declared.Beside.{Beside}
 use Rattle.refusal.specs.declared.Cause.{Cause}
 use Rattle.refusal.specs.declared.Cause.the-variants.{RanOut, NoFilm, NoTable, NoVideo, NoAudio, NoHeaderEnd, NoMetadataEnd, UnknownType, TooSmall, TooMany, TooLong, ShortOutput, ShortList, Oversized}
 
@@ -19,35 +20,22 @@ numberOf (ShortOutput video audio) = 12
 numberOf (ShortList count) = 13
 numberOf Oversized = 14
 
--- "the type, 7, 9 or 12 to 15"; "both sizes needed"; "chunk count". Nothing beside the others
-abbrev pub firstValue : Cause → ℕ
-firstValue RanOut = 0
-firstValue NoFilm = 0
-firstValue NoTable = 0
-firstValue NoVideo = 0
-firstValue NoAudio = 0
-firstValue NoHeaderEnd = 0
-firstValue NoMetadataEnd = 0
-firstValue (UnknownType kind) = kind
-firstValue TooSmall = 0
-firstValue TooMany = 0
-firstValue TooLong = 0
-firstValue (ShortOutput video audio) = video
-firstValue (ShortList count) = count
-firstValue Oversized = 0
+-- "Also returned": "the type, 7, 9 or 12 to 15" beside 8, "both sizes needed" beside 12, "chunk count" beside 13. Nothing beside the others
+abbrev pub nothingBeside : Beside
+nothingBeside = record { «video_size» = 0; «audio_size» = 0; count = 0; «unknown_type» = 0 }
 
-abbrev pub secondValue : Cause → ℕ
-secondValue RanOut = 0
-secondValue NoFilm = 0
-secondValue NoTable = 0
-secondValue NoVideo = 0
-secondValue NoAudio = 0
-secondValue NoHeaderEnd = 0
-secondValue NoMetadataEnd = 0
-secondValue (UnknownType kind) = 0
-secondValue TooSmall = 0
-secondValue TooMany = 0
-secondValue TooLong = 0
-secondValue (ShortOutput video audio) = audio
-secondValue (ShortList count) = 0
-secondValue Oversized = 0
+abbrev pub besideOf : Cause → Beside
+besideOf RanOut = nothingBeside
+besideOf NoFilm = nothingBeside
+besideOf NoTable = nothingBeside
+besideOf NoVideo = nothingBeside
+besideOf NoAudio = nothingBeside
+besideOf NoHeaderEnd = nothingBeside
+besideOf NoMetadataEnd = nothingBeside
+besideOf (UnknownType kind) = record { «video_size» = 0; «audio_size» = 0; count = 0; «unknown_type» = kind }
+besideOf TooSmall = nothingBeside
+besideOf TooMany = nothingBeside
+besideOf TooLong = nothingBeside
+besideOf (ShortOutput video audio) = record { «video_size» = video; «audio_size» = audio; count = 0; «unknown_type» = 0 }
+besideOf (ShortList count) = record { «video_size» = 0; «audio_size» = 0; count = count; «unknown_type» = 0 }
+besideOf Oversized = nothingBeside

@@ -1,6 +1,6 @@
 // Why a table or a container is refused, and where. Document 01, "Refusal numbers".
 ghost use mathlib.Core.Path.{_≡_};
-ghost use Rattle.refusal.specs.Numbers.{numberOf, firstValue, secondValue};
+ghost use Rattle.refusal.specs.Numbers.{numberOf, besideOf};
 
 // Why. The cases stand in the order of the paper's numbers, 1 to 14.
 pub enum Cause {
@@ -62,46 +62,53 @@ pub fn number_of(cause: Cause) -> u8
     }
 }
 
-// The first value that is returned beside a number: the type, the video size, the count; else 0.
-pub fn first_value(cause: Cause) -> usize
-    ensures { λ r. ⌜ r ≡ firstValue cause ⌝ }
-{
-    match cause {
-        Cause::RanOut => 0,
-        Cause::NoFilm => 0,
-        Cause::NoTable => 0,
-        Cause::NoVideo => 0,
-        Cause::NoAudio => 0,
-        Cause::NoHeaderEnd => 0,
-        Cause::NoMetadataEnd => 0,
-        Cause::UnknownType(kind) => kind as usize,
-        Cause::TooSmall => 0,
-        Cause::TooMany => 0,
-        Cause::TooLong => 0,
-        Cause::ShortOutput { video, audio: _ } => video,
-        Cause::ShortList(count) => count,
-        Cause::Oversized => 0,
-    }
+// What is returned beside a number: the type beside 8, both sizes needed beside 12, the chunk count beside 13. All else is 0.
+pub struct Beside {
+    pub video_size: usize,
+    pub audio_size: usize,
+    pub count: usize,
+    pub unknown_type: u8,
 }
 
-// The second: the audio size; else 0.
-pub fn second_value(cause: Cause) -> usize
-    ensures { λ r. ⌜ r ≡ secondValue cause ⌝ }
+// What is returned beside a cause's number.
+pub fn beside_of(cause: Cause) -> Beside
+    ensures { λ r. ⌜ r ≡ besideOf cause ⌝ }
 {
+    let nothing = Beside {
+        video_size: 0,
+        audio_size: 0,
+        count: 0,
+        unknown_type: 0,
+    };
     match cause {
-        Cause::RanOut => 0,
-        Cause::NoFilm => 0,
-        Cause::NoTable => 0,
-        Cause::NoVideo => 0,
-        Cause::NoAudio => 0,
-        Cause::NoHeaderEnd => 0,
-        Cause::NoMetadataEnd => 0,
-        Cause::UnknownType(_) => 0,
-        Cause::TooSmall => 0,
-        Cause::TooMany => 0,
-        Cause::TooLong => 0,
-        Cause::ShortOutput { video: _, audio } => audio,
-        Cause::ShortList(_) => 0,
-        Cause::Oversized => 0,
+        Cause::RanOut => nothing,
+        Cause::NoFilm => nothing,
+        Cause::NoTable => nothing,
+        Cause::NoVideo => nothing,
+        Cause::NoAudio => nothing,
+        Cause::NoHeaderEnd => nothing,
+        Cause::NoMetadataEnd => nothing,
+        Cause::UnknownType(kind) => Beside {
+            video_size: 0,
+            audio_size: 0,
+            count: 0,
+            unknown_type: kind,
+        },
+        Cause::TooSmall => nothing,
+        Cause::TooMany => nothing,
+        Cause::TooLong => nothing,
+        Cause::ShortOutput { video, audio } => Beside {
+            video_size: video,
+            audio_size: audio,
+            count: 0,
+            unknown_type: 0,
+        },
+        Cause::ShortList(count) => Beside {
+            video_size: 0,
+            audio_size: 0,
+            count,
+            unknown_type: 0,
+        },
+        Cause::Oversized => nothing,
     }
 }
