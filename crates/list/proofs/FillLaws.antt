@@ -11,7 +11,7 @@ use lib.Seq.{sets}
 use borrow.Author.Tests.{lt-ltb, le-ltb}
 use Rattle.laws.proofs.Side.{side}
 use Rattle.reading.specs.declared.Reading.{Reading}
-use Rattle.reading.specs.Choices.{appliedTo}
+use Rattle.reading.specs.declared.Applied.{Applied}
 use Rattle.chunk.specs.declared.Chunk.{Chunk}
 use Rattle.chunk.specs.declared.ChunkStep.{ChunkStep}
 use Rattle.chunk.specs.declared.ChunkStep.the-variants.{Over, Found, Refused}
@@ -27,27 +27,27 @@ use Rattle.list.specs.declared.ChunkRecord.{ChunkRecord}
 use Rattle.list.specs.declared.Plan.{Plan}
 use Rattle.list.specs.declared.RecordStep.{RecordStep}
 use Rattle.list.specs.Listing.{recordOf, listedIn, listedOf, recordsOf, filledBy}
-use Rattle.list.specs.Filling.{listCount, startIn, readingIn, planOf, stepAt}
+use Rattle.list.specs.Filling.{recordsIn, startIn, readingIn, planOf, stepAt}
 
 -- so many records are stored from i on, of the chunks from a place on
-unfoldable pub fillFor : List ℕ → Reading → ℕ → ℕ → ℕ → List ChunkRecord → List ChunkRecord
+unfoldable pub fillFor : List ℕ → Applied → ℕ → ℕ → ℕ → List ChunkRecord → List ChunkRecord
 fillFor container reading zero place i list = list
 fillFor container reading (suc left) place i list =
     fillFor container reading left (stepAt container reading place .next) (suc i) (set list i (stepAt container reading place .made))
 
 -- what the whole loop stores
 abbrev pub fillBy : List ℕ → Plan → List ChunkRecord → List ChunkRecord
-fillBy container plan list = fillFor container (plan .reading) (plan .count) (plan .start) 0 list
+fillBy container plan list = fillFor container (plan .reading) (plan .records) (plan .start) 0 list
 
 -- where the loop stands: so many records are filled, and the next is of the chunk at a place
 pub record Stored (container : List ℕ) (plan : Plan) (list : List ChunkRecord) : Type 0 where
   pub place : ℕ
   pub filled : ℕ
   pub now : List ChunkRecord
-  pub upto : filled ≤ plan .count
+  pub upto : filled ≤ plan .records
   pub fits : place < 2 ^ 64
   pub long : length now ≡ length list
-  pub same : fillFor container (plan .reading) (plan .count - filled) place filled now ≡ fillBy container plan list
+  pub same : fillFor container (plan .reading) (plan .records - filled) place filled now ≡ fillBy container plan list
 
 module _ (container : List ℕ) (plan : Plan) (list : List ChunkRecord) where
   abbrev pub begins : plan .start < 2 ^ 64 → Stored container plan list
@@ -61,13 +61,13 @@ module _ (container : List ℕ) (plan : Plan) (list : List ChunkRecord) where
     same = ap (λ (left : ℕ). fillFor container (plan .reading) left (plan .start) 0 list) (omega arith);
   }
 
-  pub one-more : (place i : ℕ) (now : List ChunkRecord) → i < plan .count
-      → fillFor container (plan .reading) (plan .count - i) place i now
-      ≡ fillFor container (plan .reading) (plan .count - (i + 1)) (stepAt container (plan .reading) place .next) (i + 1) (set now i (stepAt container (plan .reading) place .made))
+  pub one-more : (place i : ℕ) (now : List ChunkRecord) → i < plan .records
+      → fillFor container (plan .reading) (plan .records - i) place i now
+      ≡ fillFor container (plan .reading) (plan .records - (i + 1)) (stepAt container (plan .reading) place .next) (i + 1) (set now i (stepAt container (plan .reading) place .made))
   unfolding fillFor
-  one-more place i now h = let e : plan .count - i ≡ suc (plan .count - (i + 1)) = omega arith in rw (e, add-one i)
+  one-more place i now h = let e : plan .records - i ≡ suc (plan .records - (i + 1)) = omega arith in rw (e, add-one i)
 
-  abbrev pub turned : (t : Stored container plan list) → t .filled < plan .count → (r : RecordStep) → r ≡ stepAt container (plan .reading) (t .place) → r .next < 2 ^ 64 → Stored container plan list
+  abbrev pub turned : (t : Stored container plan list) → t .filled < plan .records → (r : RecordStep) → r ≡ stepAt container (plan .reading) (t .place) → r .next < 2 ^ 64 → Stored container plan list
   turned t h r e f = record {
     place = r .next;
     filled = t .filled + 1;
@@ -78,9 +78,9 @@ module _ (container : List ℕ) (plan : Plan) (list : List ChunkRecord) where
     same = rw e (sym (one-more (t .place) (t .filled) (t .now) h) ∙ t .same);
   }
 
-  pub ended : (t : Stored container plan list) → plan .count ≤ t .filled → t .now ≡ fillBy container plan list
+  pub ended : (t : Stored container plan list) → plan .records ≤ t .filled → t .now ≡ fillBy container plan list
   unfolding fillFor
-  ended t h = let e : plan .count - t .filled ≡ 0 = omega arith in rw e at (t .same)
+  ended t h = let e : plan .records - t .filled ≡ 0 = omega arith in rw e at (t .same)
 
 -- ---- as many records as there are chunks are the records of the chunks
 
@@ -91,7 +91,7 @@ none (chunk ∷ chunks) e = absurd (omega arith)
 abbrev size : Walk → ℕ
 size walk = length (walk .chunks)
 
-module _ (container : List ℕ) (reading : Reading) where
+module _ (container : List ℕ) (reading : Applied) where
   abbrev chunks : ℕ → List Chunk
   chunks place = walkFrom container reading place .chunks
 
@@ -117,38 +117,38 @@ module _ (container : List ℕ) (reading : Reading) where
 -- ---- by the plan
 
 -- a plan counts no more records than there is room for
-few : (room : ℕ) (s : Surveyed) → listCount (listedIn room s) ≤ room
-few room (survey.Film header count video audio) = ⊎-elim (λ h. rw (lt-ltb room count h) (omega arith)) (λ h. rw (le-ltb room count h) (omega arith)) (side room count)
+few : (room : ℕ) (s : Surveyed) → recordsIn (listedIn room s) ≤ room
+few room (survey.Film header applied count video audio) = ⊎-elim (λ h. rw (lt-ltb room count h) (omega arith)) (λ h. rw (le-ltb room count h) (omega arith)) (side room count)
 few room (survey.Refused refusal) = omega arith
 
 module _ (container : List ℕ) (reading : Reading) (list : List ChunkRecord) where
   abbrev Leaves : Surveyed → Type 0
-  Leaves s = fillFor container (readingIn reading s) (listCount (listedIn (length list) s)) (startIn s) 0 list ≡ filledBy (listedIn (length list) s) list (recordsOf (filmOf container reading))
+  Leaves s = fillFor container (readingIn reading s) (recordsIn (listedIn (length list) s)) (startIn s) 0 list ≡ filledBy (listedIn (length list) s) list (recordsOf (filmOf container reading))
 
   -- of a film of so many chunks
-  leaves-film : (header : Header) (chunks : List Chunk) (video audio : ℕ) → chunks ≡ walkFrom container (appliedTo (header .audio) reading) (header .start) .chunks
-      → filmOf container reading ≡ film header chunks → Leaves (survey.Film header (length chunks) video audio)
+  leaves-film : (header : Header) (applied : Applied) (chunks : List Chunk) (video audio : ℕ) → chunks ≡ walkFrom container applied (header .start) .chunks
+      → filmOf container reading ≡ film header applied chunks → Leaves (survey.Film header applied (length chunks) video audio)
   unfolding fillFor
-  leaves-film header chunks video audio w e =
+  leaves-film header applied chunks video audio w e =
       rw e (
       ⊎-elim
       (λ h. rw (lt-ltb (length list) (length chunks) h))
-      (λ h. rw (le-ltb (length list) (length chunks) h) (rw w (fills container (readingIn reading (survey.Film header (length chunks) video audio)) _ (header .start) 0 list refl)))
+      (λ h. rw (le-ltb (length list) (length chunks) h) (rw w (fills container applied _ (header .start) 0 list refl)))
       (side (length list) (length chunks)))
 
   leaves : (s : Surveyed) → surveyOf (filmOf container reading) ≡ s → Leaves s
   unfolding fillFor
-  leaves (survey.Film header count video audio) e =
-      let f = surveyed-film container reading header count video audio e in
-      let n : length (walkFrom container (appliedTo (header .audio) reading) (header .start) .chunks) ≡ count = cc in
-      rw (← n) (leaves-film header _ video audio refl f)
+  leaves (survey.Film header applied count video audio) e =
+      let f = surveyed-film container reading header applied count video audio e in
+      let n : length (walkFrom container applied (header .start) .chunks) ≡ count = cc in
+      rw (← n) (leaves-film header applied _ video audio refl f)
   leaves (survey.Refused refusal) e = refl
 
   -- the plan of a listing into this list
   abbrev pub planned : Plan
   planned = planOf (length list) reading (surveyOf (filmOf container reading))
 
-  pub plan-few : planned .count ≤ length list
+  pub plan-few : planned .records ≤ length list
   plan-few = few (length list) (surveyOf (filmOf container reading))
 
   pub plan-leaves : fillBy container planned list ≡ filledBy (listedOf container reading (length list)) list (recordsOf (filmOf container reading))

@@ -1,12 +1,8 @@
 -- No second answer meets a contract of this crate: what a caller learns makes two results one. Assumes nothing.
 use mathlib.Core.Path.{_≡_}
 use Rattle.laws.proofs.OneAnswer.{no-second-answer}
-use Rattle.list.proofs.list_answer.Reads as list-answer
 use Rattle.list.proofs.list_plan.Reads as list-plan
 use Rattle.list.proofs.record_at.Reads as record-at
-
-pub list-answer-once : (κs : _) (args : _) (r r′ : _) (exit exit′ : _) → list-answer.Learnt κs args r exit → list-answer.Learnt κs args r′ exit′ → r ≡ r′
-list-answer-once κs args r r′ exit exit′ = no-second-answer
 
 pub list-plan-once : (κs : _) (args : _) (r r′ : _) (exit exit′ : _) → list-plan.Learnt κs args r exit → list-plan.Learnt κs args r′ exit′ → r ≡ r′
 list-plan-once κs args r r′ exit exit′ = no-second-answer

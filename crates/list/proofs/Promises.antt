@@ -5,13 +5,13 @@ use Rattle.film.specs.Films.{filmOf}
 use Rattle.list.specs.declared.ChunkRecord.{ChunkRecord}
 use Rattle.list.specs.declared.Listed.{Listed}
 use Rattle.list.specs.declared.Listed.the-variants.{Count, Refused}
-use Rattle.list.specs.Listing.{listedOf, listNumber, recordsOf, filledBy}
+use Rattle.list.specs.Listing.{listedOf, listReply, recordsOf, filledBy}
 use Rattle.list.specs.Promises as promised
 
-left : (answer : Listed) (list records : List ChunkRecord) → (listNumber answer ≡ 0 → ⊥) → filledBy answer list records ≡ list
+left : (answer : Listed) (list records : List ChunkRecord) → (listReply answer .number ≡ 0 → ⊥) → filledBy answer list records ≡ list
 left (Count n) list records h = absurd (h refl)
 left (Refused refusal) list records h = refl
 
 pub RefusalsLeaveTheList : promised.RefusalsLeaveTheList
-RefusalsLeaveTheList container reading list list′ number listing h =
+RefusalsLeaveTheList container reading list list′ r listing h =
     rw (listing .1) (left (listedOf container reading _) list (recordsOf (filmOf container reading)) (rw (listing .0) at h))

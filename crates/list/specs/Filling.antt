@@ -1,7 +1,9 @@
 -- What a filler of a lent list goes by, chunk by chunk. It serves the contract of the plan; the rules do not name it.
 use Prim.Native.Nat.{ℕ}
 use mathlib.Core.List.{List}
+use mathlib.Core.Bool.{false}
 use Rattle.reading.specs.declared.Reading.{Reading}
+use Rattle.reading.specs.declared.Applied.{Applied}
 use Rattle.reading.specs.Choices.{appliedTo}
 use Rattle.chunk.specs.declared.ChunkStep.{ChunkStep}
 use Rattle.chunk.specs.declared.ChunkStep.the-variants.{Over, Found, Refused}
@@ -12,24 +14,23 @@ use Rattle.list.specs.declared.Listed.{Listed}
 use Rattle.list.specs.declared.Listed.the-variants as listed
 use Rattle.list.specs.declared.Plan.{Plan}
 use Rattle.list.specs.declared.RecordStep.{RecordStep}
-use Rattle.list.specs.Listing.{recordOf, listedIn, listNumber}
+use Rattle.list.specs.Listing.{recordOf, listedIn, listReply}
 
 -- how many records are made
-abbrev pub listCount : Listed → ℕ
-listCount (listed.Count n) = n
-listCount (listed.Refused refusal) = 0
+abbrev pub recordsIn : Listed → ℕ
+recordsIn (listed.Count n) = n
+recordsIn (listed.Refused refusal) = 0
 
 abbrev pub startIn : Surveyed → ℕ
-startIn (survey.Film header count video audio) = header .start
+startIn (survey.Film header applied count video audio) = header .start
 startIn (survey.Refused refusal) = 0
 
--- "if present and chosen"
-abbrev pub readingIn : Reading → Surveyed → Reading
-readingIn reading (survey.Film header count video audio) = appliedTo (header .audio) reading
-readingIn reading (survey.Refused refusal) = reading
+abbrev pub readingIn : Reading → Surveyed → Applied
+readingIn asked (survey.Film header applied count video audio) = applied
+readingIn asked (survey.Refused refusal) = appliedTo false asked
 
 abbrev pub planOf : ℕ → Reading → Surveyed → Plan
-planOf room reading s = record { number = listNumber (listedIn room s); count = listCount (listedIn room s); start = startIn s; reading = readingIn reading s }
+planOf room asked s = record { reply = listReply (listedIn room s); records = recordsIn (listedIn room s); start = startIn s; reading = readingIn asked s }
 
 -- a record and the next place; nothing of use where there is no chunk
 abbrev pub noRecord : RecordStep
@@ -40,5 +41,5 @@ stepOf Over = noRecord
 stepOf (Found chunk) = record { made = recordOf chunk; next = chunk .next }
 stepOf (Refused refusal) = noRecord
 
-unfoldable pub stepAt : List ℕ → Reading → ℕ → RecordStep
+unfoldable pub stepAt : List ℕ → Applied → ℕ → RecordStep
 stepAt container reading place = stepOf (chunkAt container reading place)

@@ -1,14 +1,16 @@
 // A listing of a film's chunks: what it answers, and each chunk as a record of plain numbers. Document 01, "Chunks".
-// No function of the Rust lists chunks; its `read_chunk_header` reads one. `usm` fills the lent list by what is here.
+// No function of the Rust lists chunks; its `read_chunk_header` reads one. `usm::usm_list` fills a lent list by what is here.
 ghost use mathlib.Core.Path.{_≡_};
 ghost use Rattle.film.specs.Films.{surveyOf, filmOf};
 ghost use Rattle.reading.specs.Choices.{readingBy};
-ghost use Rattle.list.specs.Listing.{listedIn, listedOf, listNumber, recordOf};
-ghost use Rattle.list.specs.Filling.{listCount, startIn, readingIn, planOf, noRecord, stepAt};
+ghost use Rattle.list.specs.Listing.{listedIn, listReply, recordOf};
+ghost use Rattle.list.specs.Filling.{recordsIn, startIn, readingIn, planOf, noRecord, stepAt};
 use chunk::Chunk;
 use chunk::ChunkStep;
 use film::Surveyed;
+use reading::Applied;
 use reading::Reading;
+use reading::ReadingBytes;
 use refusal::Cause;
 use refusal::Refusal;
 
@@ -27,13 +29,22 @@ pub enum Listed {
     Refused(Refusal),
 }
 
-// What a filler of a lent list goes by: the number that it gives, how many records it makes, from which place on,
-// and how the chunks are read.
-pub struct Plan {
-    pub number: u8,
+// The answer as C reads it. What has no meaning in it is 0.
+#[repr(C)]
+pub struct ListReply {
+    pub refused_at: usize,
     pub count: usize,
+    pub number: u8,
+    pub unknown_type: u8,
+}
+
+// What a filler of a lent list goes by: what it replies, how many records it makes, from which place on, and how the
+// chunks are read.
+pub struct Plan {
+    pub reply: ListReply,
+    pub records: usize,
     pub start: usize,
-    pub reading: Reading,
+    pub reading: Applied,
 }
 
 // A record, and where the next chunk starts.
@@ -49,6 +60,7 @@ fn listed_in(room: usize, survey: Surveyed) -> Listed
     match survey {
         Surveyed::Film {
             header: _,
+            reading: _,
             count,
             video: _,
             audio: _,
@@ -65,29 +77,33 @@ fn listed_in(room: usize, survey: Surveyed) -> Listed
     }
 }
 
-// What a listing into a list of so many records answers.
-pub fn list_answer(container: &[u8], reading: Reading, room: usize) -> Listed
-    ensures { λ r. ⌜ r ≡ listedOf (now (container .entry)) reading room ⌝ }
-{
-    listed_in(room, film::survey(container, reading))
-}
-
-// The number of an answer: the refusal's, 0 where there is none.
-fn list_number(answer: Listed) -> u8
-    ensures { λ r. ⌜ r ≡ listNumber answer ⌝ }
+// An answer as C reads it.
+fn list_reply(answer: Listed) -> ListReply
+    ensures { λ r. ⌜ r ≡ listReply answer ⌝ }
 {
     match answer {
-        Listed::Count(_) => 0,
+        Listed::Count(count) => ListReply {
+            refused_at: 0,
+            count,
+            number: 0,
+            unknown_type: 0,
+        },
         Listed::Refused(refusal) => {
             let cause = refusal.cause;
-            refusal::number_of(cause)
+            let beside = refusal::beside_of(cause);
+            ListReply {
+                refused_at: refusal.place,
+                count: beside.count,
+                number: refusal::number_of(cause),
+                unknown_type: beside.unknown_type,
+            }
         }
     }
 }
 
 // How many records there are to make: none where the listing is refused.
-fn list_count(answer: Listed) -> usize
-    ensures { λ r. ⌜ r ≡ listCount answer ⌝ }
+fn records_in(answer: Listed) -> usize
+    ensures { λ r. ⌜ r ≡ recordsIn answer ⌝ }
 {
     match answer {
         Listed::Count(count) => count,
@@ -102,6 +118,7 @@ fn start_in(survey: Surveyed) -> usize
     match survey {
         Surveyed::Film {
             header,
+            reading: _,
             count: _,
             video: _,
             audio: _,
@@ -110,31 +127,32 @@ fn start_in(survey: Surveyed) -> usize
     }
 }
 
-// The choices as they stand for a film.
-fn reading_in(reading: Reading, survey: Surveyed) -> Reading
-    ensures { λ r. ⌜ r ≡ readingIn reading survey ⌝ }
+// How a film is read. Where it is refused, no audio is present.
+fn reading_in(asked: Reading, survey: Surveyed) -> Applied
+    ensures { λ r. ⌜ r ≡ readingIn asked survey ⌝ }
 {
     match survey {
         Surveyed::Film {
-            header,
+            header: _,
+            reading,
             count: _,
             video: _,
             audio: _,
-        } => reading::applied_to(header.audio, reading),
-        Surveyed::Refused(_) => reading,
+        } => reading,
+        Surveyed::Refused(_) => reading::applied_to(false, asked),
     }
 }
 
-// What a filler of a list of so many records goes by. Audio is asked for by every number but 0.
-pub fn list_plan(container: &[u8], audio: u8, room: usize) -> Plan
-    ensures { λ r. ⌜ r ≡ planOf room (readingBy audio) (surveyOf (filmOf (now (container .entry)) (readingBy audio))) ⌝ }
+// What a filler of a list of so many records goes by.
+pub fn list_plan(container: &[u8], asked: ReadingBytes, room: usize) -> Plan
+    ensures { λ r. ⌜ r ≡ planOf room (readingBy asked) (surveyOf (filmOf (now (container .entry)) (readingBy asked))) ⌝ }
 {
-    let reading = reading::reading_by(audio);
+    let reading = reading::reading_by(asked);
     let survey = film::survey(container, reading);
     let answer = listed_in(room, survey);
     Plan {
-        number: list_number(answer),
-        count: list_count(answer),
+        reply: list_reply(answer),
+        records: records_in(answer),
         start: start_in(survey),
         reading: reading_in(reading, survey),
     }
@@ -169,7 +187,7 @@ fn no_record() -> RecordStep
 }
 
 // The record of the chunk at a place, and where the next one starts.
-pub fn record_at(container: &[u8], place: usize, reading: Reading) -> RecordStep
+pub fn record_at(container: &[u8], place: usize, reading: Applied) -> RecordStep
     ensures { λ r. ⌜ r ≡ stepAt (now (container .entry)) reading place ⌝ }
 {
     match chunk::chunk_at(container, place, reading) {

@@ -12,11 +12,11 @@ survey-requires c κs = search needs
 listed-in-requires : tie.Need-listed-in-requires
 listed-in-requires c κs = search needs
 
-list-number-requires : tie.Need-list-number-requires
-list-number-requires c κs = search needs
+list-reply-requires : tie.Need-list-reply-requires
+list-reply-requires c κs = search needs
 
-list-count-requires : tie.Need-list-count-requires
-list-count-requires c κs = search needs
+records-in-requires : tie.Need-records-in-requires
+records-in-requires c κs = search needs
 
 start-in-requires : tie.Need-start-in-requires
 start-in-requires c κs = search needs
@@ -27,7 +27,7 @@ reading-in-requires c κs = search needs
 returns : tie.Need-returns
 returns c =
     let s = c .before .before .before .before .before in
-    rw (c .reading-in .ensures, c .before .start-in .ensures, c .before .before .list-count .ensures, c .before .before .before .list-number .ensures, c .before .before .before .before .listed-in .ensures, s .survey .ensures, s .before .reading-by .ensures)
+    rw (c .reading-in .ensures, c .before .start-in .ensures, c .before .before .records-in .ensures, c .before .before .before .list-reply .ensures, c .before .before .before .before .listed-in .ensures, s .survey .ensures, s .before .reading-by .ensures)
 
 pub list-plan-spec : {M : Type 1} → statement M
 list-plan-spec =
@@ -36,8 +36,8 @@ list-plan-spec =
     reading-by-requires
     survey-requires
     listed-in-requires
-    list-number-requires
-    list-count-requires
+    list-reply-requires
+    records-in-requires
     start-in-requires
     reading-in-requires
     returns)

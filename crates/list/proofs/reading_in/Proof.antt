@@ -6,18 +6,18 @@ use Rattle.list.proofs.reading_in.Tie as tie
 enum-known-survey : tie.Need-enum-known-survey
 enum-known-survey c = search needs
 
-applied-to-requires : tie.Need-applied-to-requires
-applied-to-requires c κs = search needs
-
 enum-told : tie.Need-enum-told
 enum-told c = search needs
 
+applied-to-requires : tie.Need-applied-to-requires
+applied-to-requires c κs = search needs
+
 returns : tie.Need-returns
-returns c = rw (c .before .before .survey .given .1) (c .applied-to .ensures)
+returns c = rw (c .before .survey .given .1)
 
 returns-2 : tie.Need-returns-2
-returns-2 c = search needs
+returns-2 c = rw (c .before .enum-told .given .1) (c .applied-to .ensures)
 
 pub reading-in-spec : {M : Type 1} → statement M
 reading-in-spec =
-    tie.close (tie.spec enum-known-survey applied-to-requires enum-told returns returns-2)
+    tie.close (tie.spec enum-known-survey enum-told applied-to-requires returns returns-2)

@@ -2,7 +2,7 @@
 use Prim.Native.Nat.{ℕ}
 use mathlib.Core.Path.{_≡_, sym, ap, _∙_}
 use mathlib.Core.List.{List}
-use Rattle.reading.specs.declared.Reading.{Reading}
+use Rattle.reading.specs.declared.Applied.{Applied}
 use Rattle.chunk.specs.declared.ChunkStep.{ChunkStep}
 use Rattle.chunk.specs.Chunks.{chunkAt}
 use Rattle.list.specs.Filling.{stepOf, stepAt}
@@ -10,7 +10,7 @@ use borrow.Author.Needs.{needs}
 use Rattle.list.proofs.record_at.Statement.{statement}
 use Rattle.list.proofs.record_at.Tie as tie
 
-step-is : (container : List ℕ) (reading : Reading) (place : ℕ) (found step : ChunkStep)
+step-is : (container : List ℕ) (reading : Applied) (place : ℕ) (found step : ChunkStep)
     → found ≡ chunkAt container reading place → found ≡ step → stepOf step ≡ stepAt container reading place
 unfolding stepAt
 step-is container reading place found step e f = ap stepOf (sym f ∙ e)
