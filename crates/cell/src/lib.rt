@@ -175,7 +175,7 @@ pub fn read_cell(body: &[u8], kind: u8, at: usize, strings: u32, blobs: u32) -> 
 }
 
 // The number of a cell's case.
-pub fn case_of(cell: Cell) -> u64
+pub fn case_of(cell: Cell) -> u8
     ensures { λ r. ⌜ r ≡ caseOf cell ⌝ }
 {
     match cell {

@@ -1,4 +1,4 @@
--- No second answer meets a contract of this crate: what a caller learns makes two results, and two reports, outputs or lists at exit, one. Assumes nothing.
+-- No second answer meets a contract of this crate: what a caller learns makes two results, and two outputs or lists at exit, one. Assumes nothing.
 use mathlib.Core.Path.{_≡_, refl}
 use base.Logic.{emp}
 use contract.Lifetimes.{Lfts}
@@ -10,25 +10,17 @@ use Rattle.laws.proofs.OneAnswer.{no-second-answer}
 use Rattle.usm.proofs.usm_table.Reads as usm-table
 use Rattle.usm.proofs.usm_cell.Reads as usm-cell
 use Rattle.usm.proofs.usm_extract.Reads as usm-extract
-use Rattle.usm.proofs.usm_chunks.Reads as usm-chunks
 use Rattle.usm.proofs.usm_list as usm-list
 
-pub usm-table-once : (κs : _) (args : _) (r r′ : _) (exit exit′ : _) → usm-table.Learnt κs args r exit → usm-table.Learnt κs args r′ exit′
-    → (r ≡ r′) × (exit .1 .1 .0 .now ≡ exit′ .1 .1 .0 .now)
-usm-table-once κs args r r′ exit exit′ l l′ = (no-second-answer (l .0) (l′ .0), no-second-answer (l .1) (l′ .1))
+pub usm-table-once : (κs : _) (args : _) (r r′ : _) (exit exit′ : _) → usm-table.Learnt κs args r exit → usm-table.Learnt κs args r′ exit′ → r ≡ r′
+usm-table-once κs args r r′ exit exit′ = no-second-answer
 
-pub usm-cell-once : (κs : _) (args : _) (r r′ : _) (exit exit′ : _) → usm-cell.Learnt κs args r exit → usm-cell.Learnt κs args r′ exit′
-    → (r ≡ r′) × (exit .1 .1 .1 .1 .0 .now ≡ exit′ .1 .1 .1 .1 .0 .now)
-usm-cell-once κs args r r′ exit exit′ l l′ = (no-second-answer (l .0) (l′ .0), no-second-answer (l .1) (l′ .1))
+pub usm-cell-once : (κs : _) (args : _) (r r′ : _) (exit exit′ : _) → usm-cell.Learnt κs args r exit → usm-cell.Learnt κs args r′ exit′ → r ≡ r′
+usm-cell-once κs args r r′ exit exit′ = no-second-answer
 
 pub usm-extract-once : (κs : _) (args : _) (r r′ : _) (exit exit′ : _) → usm-extract.Learnt κs args r exit → usm-extract.Learnt κs args r′ exit′
-    → (r ≡ r′) × (exit .1 .1 .1 .1 .1 .1 .1 .0 .now ≡ exit′ .1 .1 .1 .1 .1 .1 .1 .0 .now) × (exit .1 .1 .1 .1 .1 .0 .now ≡ exit′ .1 .1 .1 .1 .1 .0 .now) × (exit .1 .1 .1 .1 .1 .1 .0 .now ≡ exit′ .1 .1 .1 .1 .1 .1 .0 .now)
-usm-extract-once κs args r r′ exit exit′ l l′ =
-    (no-second-answer (l .0 .0) (l′ .0 .0), no-second-answer (l .0 .1) (l′ .0 .1), no-second-answer (l .1) (l′ .1), no-second-answer (l .2) (l′ .2))
-
-pub usm-chunks-once : (κs : _) (args : _) (r r′ : _) (exit exit′ : _) → usm-chunks.Learnt κs args r exit → usm-chunks.Learnt κs args r′ exit′
-    → (r ≡ r′) × (exit .1 .1 .1 .0 .now ≡ exit′ .1 .1 .1 .0 .now)
-usm-chunks-once κs args r r′ exit exit′ l l′ = (no-second-answer (l .0) (l′ .0), no-second-answer (l .1) (l′ .1))
+    → (r ≡ r′) × (exit .1 .1 .1 .1 .0 .now ≡ exit′ .1 .1 .1 .1 .0 .now) × (exit .1 .1 .1 .1 .1 .0 .now ≡ exit′ .1 .1 .1 .1 .1 .0 .now)
+usm-extract-once κs args r r′ exit exit′ l l′ = (no-second-answer (l .0) (l′ .0), no-second-answer (l .1) (l′ .1), no-second-answer (l .2) (l′ .2))
 
 -- Of a function over a slice of structs no `Reads` is made. What a caller learns of it is read off its contract here, in the same way.
 module _ (κs : Lfts 2) (args : ArgsD usm-list.signature κs) (r : ResD usm-list.signature κs) (exit : AtExit usm-list.ended κs) where

@@ -1,3 +1,2 @@
-pub mod Reports
 pub mod Exports
 pub mod Promises

@@ -50,10 +50,13 @@ use denote.Triple.Clauses.{ensured, lasts}
 use denote.Triple.Walked.{says, Stays, stay-slice, stay-none, stay-none-slice, walkOf, goes-slice, goes-none, goes-none-slice, Walks, ends-at, walked, walk-meets}
 use denote.Exit.{yes}
 use Rattle.laws.proofs.Side.{side}
-use Rattle.reading.specs.declared.Reading.{Reading}
+use Rattle.reading.specs.declared.Applied.{Applied}
+use Rattle.reading.specs.declared.ReadingBytes.{ReadingBytes}
 use Rattle.reading.specs.Choices.{readingBy}
-use Rattle.reading.proofs.Reading as R
-use Rattle.reading.proofs.Reading.Laws as R′
+use Rattle.reading.proofs.Applied as R
+use Rattle.reading.proofs.Applied.Laws as R′
+use Rattle.reading.proofs.ReadingBytes as B
+use Rattle.reading.proofs.ReadingBytes.Laws as B′
 use Rattle.film.specs.Films.{filmOf}
 use Rattle.list.specs.declared.ChunkRecord.{ChunkRecord}
 use Rattle.list.specs.declared.RecordStep.{RecordStep}
@@ -61,6 +64,9 @@ use Rattle.list.specs.declared.Plan.{Plan}
 use Rattle.list.specs.Listing.{listedOf, recordsOf, filledBy}
 use Rattle.list.specs.Filling.{stepAt}
 use Rattle.list.proofs.FillLaws.{fillBy, Stored, begins, turned, ended, planned, plan-few, plan-leaves}
+use Rattle.list.specs.declared.ListReply.{ListReply}
+use Rattle.list.proofs.ListReply as L
+use Rattle.list.proofs.ListReply.Laws as L′
 use Rattle.list.proofs.Plan as P
 use Rattle.list.proofs.Plan.Laws as P′
 use Rattle.list.proofs.ChunkRecord as T
@@ -82,7 +88,7 @@ use Rattle.usm.proofs.usm_list.Code as code
 use Rattle.usm.proofs.usm_list.Code.Mir as mirs
 
 abbrev stayed : Stays (f.ended .signature .params) (f.ended .kept)
-stayed = (stay-none-slice (0 ∷ []) tt (plain (λ _. u8)) yes, (stay-none (λ _. u8) yes, (stay-slice (1 ∷ []) tt (plain (λ _. T.the-row)), tt)))
+stayed = (stay-none-slice (0 ∷ []) tt (plain (λ _. u8)) yes, (stay-none (λ _. B.the-row) yes, (stay-slice (1 ∷ []) tt (plain (λ _. T.the-row)), tt)))
 
 module _ {M : Type 1} (𝓤 : URA M) (H : Heap 𝓤) (A : Atoms 𝓤) (mem : Memory → SProp 𝓤) (run : Routine → Fun 𝓤) where
   -- the contracts that the proof cites
@@ -93,7 +99,7 @@ module _ {M : Type 1} (𝓤 : URA M) (H : Heap 𝓤) (A : Atoms 𝓤) (mem : Mem
   ListPlan = tripleOf 𝓤 H A plan.signature (plan.spec 𝓤 H A mem run)
 
 module _ {M : Type 1} (𝓤 : URA M) (H : Heap 𝓤) (A : Atoms 𝓤) (W : Given 𝓤 H A) (mem : Memory → SProp 𝓤) (run : Routine → Fun 𝓤) (κ κ′ : Lft) (q q′ : Share)
-    (container : RefT (List ℕ)) (audio : ℕ) (b o : ℕ) (γ : GName) (list : List ChunkRecord) where
+    (container : RefT (List ℕ)) (wish : ReadingBytes) (b o : ℕ) (γ : GName) (list : List ChunkRecord) where
   abbrev x : List ChunkRecord → RefT (List ChunkRecord)
   x l = record { ptr = (b, o); name = γ; now = l }
 
@@ -103,80 +109,86 @@ module _ {M : Type 1} (𝓤 : URA M) (H : Heap 𝓤) (A : Atoms 𝓤) (W : Given
   abbrev lv : Val
   lv = sliceVal (b, o) (length list)
 
+  abbrev wv : Val
+  wv = LL.val B.the-type B′.the-laws wish
+
   abbrev Own : Fml
   Own = ShrSlice (named 0) κ u8 .own container (cv ∷ [])
 
   abbrev Arg : Type 0
-  Arg = RefT (List ℕ) × (ℕ × (RefT (List ChunkRecord) × Unit {0}))
+  Arg = RefT (List ℕ) × (ReadingBytes × (RefT (List ChunkRecord) × Unit {0}))
 
   abbrev a : Arg
-  a = (container, (audio, (x list, tt)))
+  a = (container, (wish, (x list, tt)))
 
   abbrev vals : List Val × (List Val × (List Val × Unit {0}))
-  vals = (cv ∷ [], (vint w8 audio ∷ [], (lv ∷ [], tt)))
+  vals = (cv ∷ [], (wv ∷ [], (lv ∷ [], tt)))
 
   abbrev Post : Val → SProp 𝓤
   Post = walkOf 𝓤 H A f.ended stayed (f.clauses 𝓤 H A mem run) .post (((κ, (κ′, tt)), (q, (q′, tt)), tt, a, vals), tt)
 
   -- ---- what the callees are passed, and what they say
-  abbrev rv : Reading → Val
+  abbrev rv : Applied → Val
   rv = LL.val R.the-type R′.the-laws
 
-  abbrev to : Reading → ℕ → RecordAt 𝓤 H A mem run .Ghost
+  abbrev to : Applied → ℕ → RecordAt 𝓤 H A mem run .Ghost
   to reading place = (((κ, tt), (q, tt), tt, (container, (place, (reading, tt))), (cv ∷ [], (vint w64 place ∷ [], (rv reading ∷ [], tt)))), tt)
 
-  asked : (reading : Reading) (place : ℕ) → Is R.the-row reading (rv reading ∷ []) → place < 2 ^ 64 → ent 𝓤 (⋆ 𝓤 H A ((‵ (flft κ q) ⊛ ‵ ftrue) ∷ ‵ Own ∷ [])) (RecordAt 𝓤 H A mem run .pre (to reading place))
+  asked : (reading : Applied) (place : ℕ) → Is R.the-row reading (rv reading ∷ []) → place < 2 ^ 64 → ent 𝓤 (⋆ 𝓤 H A ((‵ (flft κ q) ⊛ ‵ ftrue) ∷ ‵ Own ∷ [])) (RecordAt 𝓤 H A mem run .pre (to reading place))
   asked reading place reading-is fits =
       qed W ((‵ (flft κ q) ⊛ ‵ ftrue) ∷ ‵ Own ∷ []) ∵ move ! (1 ∷ []) $ nothing ! $ owned ! R.the-row (Is R.the-row) ((LL.makes R.the-type R′.the-plain) 𝓤 H A) reading _ reading-is $ fjoin ! $ owned ! usize (Is usize) (uint-makes 𝓤 H A W w64) place _ (refl, fits) $ fjoin ! $
       move ! (1 ∷ 0 ∷ []) $ fjoin ! $ move ! (1 ∷ 0 ∷ []) $ join ! $ frame ! $ done !
 
-  said : (reading : Reading) (place : ℕ) (r : RecordStep)
+  said : (reading : Applied) (place : ℕ) (r : RecordStep)
       → ent 𝓤 (ensured 𝓤 H A step.ended (step.clauses 𝓤 H A mem run) (κ, tt) (container, (place, (reading, tt))) tt r) (fact 𝓤 (r ≡ stepAt (now container) reading place))
   said reading place r = exE 𝓤 _ (λ ws. snd∗ 𝓤 (sem 𝓤 H A (lasts step.ended (κ, tt) (container, (place, (reading, tt))) ws)) (fact 𝓤 (r ≡ stepAt (now container) reading place)))
 
   abbrev to-plan : ListPlan 𝓤 H A mem run .Ghost
-  to-plan = (((κ, tt), (q, tt), tt, (container, (audio, (length list, tt))), (cv ∷ [], (vint w8 audio ∷ [], (vint w64 (length list) ∷ [], tt)))), tt)
+  to-plan = (((κ, tt), (q, tt), tt, (container, (wish, (length list, tt))), (cv ∷ [], (wv ∷ [], (vint w64 (length list) ∷ [], tt)))), tt)
 
-  asked-plan : audio < 2 ^ 8 → length list < 2 ^ 64 → ent 𝓤 (⋆ 𝓤 H A ((‵ (flft κ q) ⊛ ‵ ftrue) ∷ ‵ Own ∷ [])) (ListPlan 𝓤 H A mem run .pre to-plan)
-  asked-plan audio-fits long-fits =
+  asked-plan : Is B.the-row wish (wv ∷ []) → length list < 2 ^ 64 → ent 𝓤 (⋆ 𝓤 H A ((‵ (flft κ q) ⊛ ‵ ftrue) ∷ ‵ Own ∷ [])) (ListPlan 𝓤 H A mem run .pre to-plan)
+  asked-plan wish-is long-fits =
       qed W ((‵ (flft κ q) ⊛ ‵ ftrue) ∷ ‵ Own ∷ []) ∵ move ! (1 ∷ []) $ nothing ! $ owned ! usize (Is usize) (uint-makes 𝓤 H A W w64) (length list) _ (refl, long-fits) $ fjoin ! $
-      owned ! u8 (Is u8) (uint-makes 𝓤 H A W w8) audio _ (refl, audio-fits) $ fjoin ! $ move ! (1 ∷ 0 ∷ []) $ fjoin ! $ move ! (1 ∷ 0 ∷ []) $ join ! $ frame ! $ done !
+      owned ! B.the-row (Is B.the-row) ((LL.makes B.the-type B′.the-plain) 𝓤 H A) wish _ wish-is $ fjoin ! $ move ! (1 ∷ 0 ∷ []) $ fjoin ! $ move ! (1 ∷ 0 ∷ []) $ join ! $ frame ! $ done !
 
   abbrev told : Plan
-  told = planned (now container) (readingBy audio) list
+  told = planned (now container) (readingBy wish) list
 
-  said-plan : (r : Plan) → ent 𝓤 (ensured 𝓤 H A plan.ended (plan.clauses 𝓤 H A mem run) (κ, tt) (container, (audio, (length list, tt))) tt r) (fact 𝓤 (r ≡ told))
-  said-plan r = exE 𝓤 _ (λ ws. snd∗ 𝓤 (sem 𝓤 H A (lasts plan.ended (κ, tt) (container, (audio, (length list, tt))) ws)) (fact 𝓤 (r ≡ told)))
+  said-plan : (r : Plan) → ent 𝓤 (ensured 𝓤 H A plan.ended (plan.clauses 𝓤 H A mem run) (κ, tt) (container, (wish, (length list, tt))) tt r) (fact 𝓤 (r ≡ told))
+  said-plan r = exE 𝓤 _ (λ ws. snd∗ 𝓤 (sem 𝓤 H A (lasts plan.ended (κ, tt) (container, (wish, (length list, tt))) ws)) (fact 𝓤 (r ≡ told)))
 
   -- ---- from here on the plan is known
   module _ (p : Plan) (e₀ : p ≡ told) where
     abbrev n : ℕ
-    n = p .count
+    n = p .records
 
     abbrev pv : Val
     pv = LL.val P.the-type P′.the-laws p
+
+    abbrev reply : Val
+    reply = LL.val L.the-type L′.the-laws (p .reply)
 
     abbrev St : Type 0
     St = Stored (now container) p list
 
     few : n ≤ length list
-    few = rw e₀ (plan-few (now container) (readingBy audio) list)
+    few = rw e₀ (plan-few (now container) (readingBy wish) list)
 
-    leaves-list : (t : St) → n ≤ t .filled → t .now ≡ filledBy (listedOf (now container) (readingBy audio) (length list)) list (recordsOf (filmOf (now container) (readingBy audio)))
-    leaves-list t over = ended (now container) p list t over ∙ ap (λ (k : Plan). fillBy (now container) k list) e₀ ∙ plan-leaves (now container) (readingBy audio) list
+    leaves-list : (t : St) → n ≤ t .filled → t .now ≡ filledBy (listedOf (now container) (readingBy wish) (length list)) list (recordsOf (filmOf (now container) (readingBy wish)))
+    leaves-list t over = ended (now container) p list t over ∙ ap (λ (k : Plan). fillBy (now container) k list) e₀ ∙ plan-leaves (now container) (readingBy wish) list
 
     -- ---- the exit
-    exits : Room T.the-row (length list) → audio < 2 ^ 8 → p .number < 2 ^ 8 → (t : St) → n ≤ t .filled
-        → ent 𝓤 (⋆ 𝓤 H A (‵ (fobs γ (codedHoleys T.the-row .code (heres T.the-row (t .now)))) ∷ ‵ (fbor κ′ (Held T.the-row (length (t .now)) b o γ)) ∷ ‵ (flft κ′ q′) ∷ (‵ (flft κ q) ⊛ ‵ ftrue) ∷ ‵ Own ∷ [])) (Post (vint w8 (p .number)))
-    exits room audio-fits number-fits t over =
+    exits : Room T.the-row (length list) → Is B.the-row wish (wv ∷ []) → Is L.the-row (p .reply) (reply ∷ []) → (t : St) → n ≤ t .filled
+        → ent 𝓤 (⋆ 𝓤 H A (‵ (fobs γ (codedHoleys T.the-row .code (heres T.the-row (t .now)))) ∷ ‵ (fbor κ′ (Held T.the-row (length (t .now)) b o γ)) ∷ ‵ (flft κ′ q′) ∷ (‵ (flft κ q) ⊛ ‵ ftrue) ∷ ‵ Own ∷ [])) (Post reply)
+    exits room wish-is reply-is t over =
         qed W (‵ (fobs γ (codedHoleys T.the-row .code (heres T.the-row (t .now)))) ∷ ‵ (fbor κ′ (Held T.the-row (length (t .now)) b o γ)) ∷ ‵ (flft κ′ q′) ∷ (‵ (flft κ q) ⊛ ‵ ftrue) ∷ ‵ Own ∷ []) ∵
-        suffices ! _ (ends-at 𝓤 H A f.ended stayed (f.clauses 𝓤 H A mem run) W (((κ, (κ′, tt)), (q, (q′, tt)), tt, a, vals), tt) (vint w8 (p .number)) (p .number) (tt, (tt, (t .now, tt))) (tt, (tt, (t .long, tt)))) $
-        says ! (ap (λ (k : Plan). k .number) e₀, leaves-list t over) $
+        suffices ! _ (ends-at 𝓤 H A f.ended stayed (f.clauses 𝓤 H A mem run) W (((κ, (κ′, tt)), (q, (q′, tt)), tt, a, vals), tt) reply (p .reply) (tt, (tt, (t .now, tt))) (tt, (tt, (t .long, tt)))) $
+        says ! (ap (λ (k : Plan). k .reply) e₀, leaves-list t over) $
         move ! (3 ∷ []) $ split ! $ move ! (4 ∷ 1 ∷ []) $ join ! $ move ! (1 ∷ 0 ∷ []) $ join ! $ frame ! $
         -- [obs; the borrow; what the container owns]
         fjoin ! $ pureI ! (at-slice T.the-row (x (t .now)) (lv ∷ [])) (tt, (tt, tt)) (ap (λ (m : ℕ). sliceVal (b, o) m ∷ []) (sym (t .long)), subst (Room T.the-row) (sym (t .long)) room) $ fjoin ! $
         nothing ! $ move ! (1 ∷ 0 ∷ []) $ fjoin ! $
-        owned ! u8 (Is u8) (uint-makes 𝓤 H A W w8) audio _ (refl, audio-fits) $ fjoin ! $ move ! (1 ∷ 0 ∷ []) $ fjoin ! $ owned ! u8 (Is u8) (uint-makes 𝓤 H A W w8) (p .number) _ (refl, number-fits) $ move ! (1 ∷ 0 ∷ []) $ done !
+        owned ! B.the-row (Is B.the-row) ((LL.makes B.the-type B′.the-plain) 𝓤 H A) wish _ wish-is $ fjoin ! $ move ! (1 ∷ 0 ∷ []) $ fjoin ! $ owned ! L.the-row (Is L.the-row) ((LL.makes L.the-type L′.the-plain) 𝓤 H A) (p .reply) _ reply-is $ move ! (1 ∷ 0 ∷ []) $ done !
 
     -- ---- the loop: its variant is where it stands, by how many records are left
     abbrev Nearer : St → St → Type 0
@@ -197,7 +209,7 @@ module _ {M : Type 1} (𝓤 : URA M) (H : Heap 𝓤) (A : Atoms 𝓤) (W : Given
     abbrev records : Ty
     records = sliceTy (tyRef (named 1) mut (pointee (T.the-row .written)))
 
-    module _ (𝓣 : Tables 𝓤 H) (known : Triple 𝓤 (𝓣 .C #list·record-at) (RecordAt 𝓤 H A mem run)) (room : Room T.the-row (length list)) (audio-fits : audio < 2 ^ 8) (plan-is : Is P.the-row p (pv ∷ []))
+    module _ (𝓣 : Tables 𝓤 H) (known : Triple 𝓤 (𝓣 .C #list·record-at) (RecordAt 𝓤 H A mem run)) (room : Room T.the-row (length list)) (wish-is : Is B.the-row wish (wv ∷ [])) (plan-is : Is P.the-row p (pv ∷ []))
         (l₀ l₁ l₂ l₃ l₄ l₅ l₆ l₇ l₈ l₉ l₁₀ l₁₁ : ℕ) where
       abbrev C : Calls 𝓤 H
       C = 𝓣 .C
@@ -205,8 +217,8 @@ module _ {M : Type 1} (𝓤 : URA M) (H : Heap 𝓤) (A : Atoms 𝓤) (W : Given
       abbrev Λ : Loops 𝓤 H
       Λ = 𝓣 .Λ
 
-      number-fits : Fits w8 (p .number)
-      number-fits = record { fits = LL.owed P.the-type P′.the-laws p (pv ∷ []) plan-is .0 .1 }
+      reply-is : Is L.the-row (p .reply) (reply ∷ [])
+      reply-is = LL.owed P.the-type P′.the-laws p (pv ∷ []) plan-is .0
 
       start-fits : Fits w64 (p .start)
       start-fits = record { fits = LL.owed P.the-type P′.the-laws p (pv ∷ []) plan-is .1 .1 .0 .1 }
@@ -215,7 +227,7 @@ module _ {M : Type 1} (𝓤 : URA M) (H : Heap 𝓤) (A : Atoms 𝓤) (W : Given
       reading-is = LL.owed P.the-type P′.the-laws p (pv ∷ []) plan-is .1 .1 .1 .0
 
       abbrev En : Env 𝓤 H
-      En = (byte, l₀) ∷ (bytes, l₁) ∷ (byte, l₂) ∷ (records, l₃) ∷ (P′.mir, l₄) ∷ (word, l₅) ∷ (word, l₆) ∷ (S′.mir, l₇) ∷ (word, l₈) ∷ (tyBool, l₉) ∷ (word, l₁₀) ∷ (tyPtr, l₁₁) ∷ []
+      En = (L′.mir, l₀) ∷ (bytes, l₁) ∷ (B′.mir, l₂) ∷ (records, l₃) ∷ (P′.mir, l₄) ∷ (word, l₅) ∷ (word, l₆) ∷ (S′.mir, l₇) ∷ (word, l₈) ∷ (tyBool, l₉) ∷ (word, l₁₀) ∷ (tyPtr, l₁₁) ∷ []
 
       -- 0 the row; 1 the token; 2 what the container owns; 3 _11; 5 _10; 7 _9; 9 _8; 11 _7; 13 _6; 15 _5; 17 _4; 19 _3; 21 _2; 23 _1; 25 room for _0; 27 the open borrow; 28 obs; 29 auth
       abbrev At : St → List (Item 𝓤)
@@ -223,7 +235,7 @@ module _ {M : Type 1} (𝓤 : URA M) (H : Heap 𝓤) (A : Atoms 𝓤) (W : Given
           ∷ ‵ (froom tyPtr l₁₁ 0) ∷ ‵ (fdies tyPtr l₁₁) ∷ ‵ (froom word l₁₀ 0) ∷ ‵ (fdies word l₁₀) ∷ ‵ (froom tyBool l₉ 0) ∷ ‵ (fdies tyBool l₉) ∷ ‵ (froom word l₈ 0) ∷ ‵ (fdies word l₈)
           ∷ ‵ (froom S′.mir l₇ 0) ∷ ‵ (fdies S′.mir l₇) ∷ ‵ (fat fullShare word l₆ 0 (vint w64 (t .filled))) ∷ ‵ (fdies word l₆) ∷ ‵ (fat fullShare word l₅ 0 (vint w64 (t .place))) ∷ ‵ (fdies word l₅)
           ∷ ‵ (fat fullShare P′.mir l₄ 0 pv) ∷ ‵ (fdies P′.mir l₄) ∷ ‵ (fat fullShare records l₃ 0 lv) ∷ ‵ (fdies records l₃)
-          ∷ ‵ (fat fullShare byte l₂ 0 (vint w8 audio)) ∷ ‵ (fdies byte l₂) ∷ ‵ (fat fullShare bytes l₁ 0 cv) ∷ ‵ (fdies bytes l₁) ∷ ‵ (froom byte l₀ 0) ∷ ‵ (fdies byte l₀)
+          ∷ ‵ (fat fullShare B′.mir l₂ 0 wv) ∷ ‵ (fdies B′.mir l₂) ∷ ‵ (fat fullShare bytes l₁ 0 cv) ∷ ‵ (fdies bytes l₁) ∷ ‵ (froom L′.mir l₀ 0) ∷ ‵ (fdies L′.mir l₀)
           ∷ ‵ (fobor κ′ q′ (Held T.the-row (length list) b o γ)) ∷ ‵ (fobs γ (codedHoleys T.the-row .code (heres T.the-row list))) ∷ ‵ (fauth γ (codedHoleys T.the-row .code (heres T.the-row list))) ∷ []
 
       abbrev Turned : St → Out → SProp 𝓤
@@ -271,11 +283,11 @@ module _ {M : Type 1} (𝓤 : URA M) (H : Heap 𝓤) (A : Atoms 𝓤) (W : Given
           rewrite ! 7 (λ (c : Bool). ‵ (fat fullShare tyBool l₉ 0 (vbool c))) (le-ltb (t .filled) n over) refl $ leaves-loop ! (load ! (from ! (stop !)) (look ! 7 refl)) $ exec ! C Λ En mirs.t-6 (atRet En Post) $
           move ! (0 ∷ 27 ∷ 28 ∷ 29 ∷ []) $ closes-slice ! tt T.the-row list (t .now) (t .long) b o $
           -- [obs; the borrow; its token; the token; what the container owns; 5 _11; …; 19 _4; …; 27 room for _0; …]
-          assigns ! (of-opd ! (load ! (from ! (fld ! refl (stop !))) (look-in ! 19 (sub ! 0 refl (whole !))))) (from ! (stop !)) (init ! 27 refl (tt, number-fits)) $
+          assigns ! (of-opd ! (load ! (from ! (fld ! refl (stop !))) (look-in ! 19 (sub ! 0 refl (whole !))))) (from ! (stop !)) (init ! 27 refl (LL.lawful L.the-type L′.the-laws 𝓤 H A W .typed (p .reply) _ reply-is .0)) $
           returns ! (look ! 27 refl) $ forget ! 9 refl $ forget ! 15 refl $ forget ! 17 refl $ forget ! 19 refl $ forget ! 21 refl $ forget ! 23 refl $ forget ! 25 refl $ forget ! 27 refl $
           move ! (27 ∷ 28 ∷ []) $ free1 ! $ move ! (25 ∷ 26 ∷ []) $ free1 ! $ move ! (23 ∷ 24 ∷ []) $ free1 ! $ move ! (21 ∷ 22 ∷ []) $ free1 ! $ move ! (19 ∷ 20 ∷ []) $ free1 ! $ move ! (17 ∷ 18 ∷ []) $ free1 ! $
           move ! (15 ∷ 16 ∷ []) $ free1 ! $ move ! (13 ∷ 14 ∷ []) $ free1 ! $ move ! (11 ∷ 12 ∷ []) $ free1 ! $ move ! (9 ∷ 10 ∷ []) $ free1 ! $ move ! (7 ∷ 8 ∷ []) $ free1 ! $ move ! (5 ∷ 6 ∷ []) $ free1 ! $ free0 ! $
-          keep ! (0 ∷ 1 ∷ 2 ∷ 3 ∷ 4 ∷ []) $ by ! (exits room audio-fits (number-fits .fits) t over)
+          keep ! (0 ∷ 1 ∷ 2 ∷ 3 ∷ 4 ∷ []) $ by ! (exits room wish-is reply-is t over)
 
       turns : (t : St) → Sq W (At t) (runs C Λ En mirs.turn-1 (anyQ (Turned t)))
       turns t = ⊎-elim (stores t) (leaves t) (side (t .filled) n)
@@ -286,7 +298,7 @@ module _ {M : Type 1} (𝓤 : URA M) (H : Heap 𝓤) (A : Atoms 𝓤) (W : Given
           ∷ ‵ (froom tyPtr l₁₁ 0) ∷ ‵ (fdies tyPtr l₁₁) ∷ ‵ (froom word l₁₀ 0) ∷ ‵ (fdies word l₁₀) ∷ ‵ (froom tyBool l₉ 0) ∷ ‵ (fdies tyBool l₉) ∷ ‵ (fat fullShare word l₈ 0 (vint w64 (length list))) ∷ ‵ (fdies word l₈)
           ∷ ‵ (froom S′.mir l₇ 0) ∷ ‵ (fdies S′.mir l₇) ∷ ‵ (froom word l₆ 0) ∷ ‵ (fdies word l₆) ∷ ‵ (froom word l₅ 0) ∷ ‵ (fdies word l₅)
           ∷ ‵ (fat fullShare P′.mir l₄ 0 pv) ∷ ‵ (fdies P′.mir l₄) ∷ ‵ (fat fullShare records l₃ 0 lv) ∷ ‵ (fdies records l₃)
-          ∷ ‵ (fat fullShare byte l₂ 0 (vint w8 audio)) ∷ ‵ (fdies byte l₂) ∷ ‵ (fat fullShare bytes l₁ 0 cv) ∷ ‵ (fdies bytes l₁) ∷ ‵ (froom byte l₀ 0) ∷ ‵ (fdies byte l₀)
+          ∷ ‵ (fat fullShare B′.mir l₂ 0 wv) ∷ ‵ (fdies B′.mir l₂) ∷ ‵ (fat fullShare bytes l₁ 0 cv) ∷ ‵ (fdies bytes l₁) ∷ ‵ (froom L′.mir l₀ 0) ∷ ‵ (fdies L′.mir l₀)
           ∷ ‵ (fobor κ′ q′ (Held T.the-row (length list) b o γ)) ∷ ‵ (fobs γ (codedHoleys T.the-row .code (heres T.the-row list))) ∷ ‵ (fauth γ (codedHoleys T.the-row .code (heres T.the-row list))) ∷ []
 
       goes-on : Sq W Planned (runs C Λ En mirs.t-3 (atRet En Post))
@@ -295,13 +307,13 @@ module _ {M : Type 1} (𝓤 : URA M) (H : Heap 𝓤) (A : Atoms 𝓤) (W : Given
           assigns ! (of-opd ! (lit ! tt)) (from ! (stop !)) (init ! 13 refl (tt, record { fits = lit< tt })) $ forget ! 9 refl $
           first ! $ blocks ! $ loops ! 𝓣 Nearer Nearer-wf At turns (begins (now container) p list (start-fits .fits))
 
-  walk : (𝓣 : Tables 𝓤 H) → Triple 𝓤 (𝓣 .C #list·list-plan) (ListPlan 𝓤 H A mem run) → Triple 𝓤 (𝓣 .C #list·record-at) (RecordAt 𝓤 H A mem run) → Room u8 (length (container .now)) → Room T.the-row (length list) → audio < 2 ^ 8
-      → ent 𝓤 (onEntry 𝓤 H A f.signature (κ, (κ′, tt)) (q, (q′, tt)) a vals) (WpFn 𝓤 H (𝓣 .C) (𝓣 .Λ) code.function (cv ∷ vint w8 audio ∷ lv ∷ []) Post)
-  walk 𝓣 known-plan known c-room room audio-fits =
-      qed W ((‵ (flft κ q) ⊛ ‵ (flft κ′ q′) ⊛ ‵ ftrue) ∷ ‵ (owns (ShrSlice (named 0) κ u8 ∷ u8 ∷ MutSlice (named 1) κ′ T.the-row ∷ []) a vals) ∷ []) ∵
-      enter ! (𝓣 .C) (𝓣 .Λ) code.function (cv ∷ vint w8 audio ∷ lv ∷ []) _ $
+  walk : (𝓣 : Tables 𝓤 H) → Triple 𝓤 (𝓣 .C #list·list-plan) (ListPlan 𝓤 H A mem run) → Triple 𝓤 (𝓣 .C #list·record-at) (RecordAt 𝓤 H A mem run) → Room u8 (length (container .now)) → Room T.the-row (length list) → Is B.the-row wish (wv ∷ [])
+      → ent 𝓤 (onEntry 𝓤 H A f.signature (κ, (κ′, tt)) (q, (q′, tt)) a vals) (WpFn 𝓤 H (𝓣 .C) (𝓣 .Λ) code.function (cv ∷ wv ∷ lv ∷ []) Post)
+  walk 𝓣 known-plan known c-room room wish-is =
+      qed W ((‵ (flft κ q) ⊛ ‵ (flft κ′ q′) ⊛ ‵ ftrue) ∷ ‵ (owns (ShrSlice (named 0) κ u8 ∷ B.the-row ∷ MutSlice (named 1) κ′ T.the-row ∷ []) a vals) ∷ []) ∵
+      enter ! (𝓣 .C) (𝓣 .Λ) code.function (cv ∷ wv ∷ lv ∷ []) _ $
       alloc1 ! (λ l₀. alloc1 ! (λ l₁. alloc1 ! (λ l₂. alloc1 ! (λ l₃. alloc1 ! (λ l₄. alloc1 ! (λ l₅. alloc1 ! (λ l₆. alloc1 ! (λ l₇. alloc1 ! (λ l₈. alloc1 ! (λ l₉. alloc1 ! (λ l₁₀. alloc1 ! (λ l₁₁. alloc0 ! $ params1 ! $
-      pass1 ! (init ! 20 refl (tt, (tt, (record { fits = c-room .0 }, tt)))) $ pass1 ! (init ! 18 refl (tt, record { fits = audio-fits })) $ pass1 ! (init ! 16 refl (tt, (tt, (record { fits = room .0 }, tt)))) $ pass0 ! $
+      pass1 ! (init ! 20 refl (tt, (tt, (record { fits = c-room .0 }, tt)))) $ pass1 ! (init ! 18 refl (LL.lawful B.the-type B′.the-laws 𝓤 H A W .typed wish _ wish-is .0)) $ pass1 ! (init ! 16 refl (tt, (tt, (record { fits = room .0 }, tt)))) $ pass0 ! $
       assigns ! (of-opd ! (load ! (from ! (fld ! refl (stop !))) (look-in ! 16 (sub ! 1 refl (whole !))))) (from ! (stop !)) (init ! 6 refl (tt, record { fits = room .0 })) $
       -- the borrow is opened
       move ! (25 ∷ []) $ fsplit ! $ move ! (1 ∷ []) $ fsplit ! $ drop ! $ fsplit ! $ fsplit ! $ drop ! $ fsplit ! $
@@ -312,31 +324,31 @@ module _ {M : Type 1} (𝓤 : URA M) (H : Heap 𝓤) (A : Atoms 𝓤) (W : Given
       keep ! (1 ∷ 0 ∷ 6 ∷ 7 ∷ 8 ∷ 9 ∷ 10 ∷ 11 ∷ 12 ∷ 13 ∷ 14 ∷ 15 ∷ 16 ∷ 17 ∷ 18 ∷ 19 ∷ 20 ∷ 21 ∷ 22 ∷ 23 ∷ 24 ∷ 25 ∷ 26 ∷ 27 ∷ 28 ∷ 29 ∷ 30 ∷ 2 ∷ 3 ∷ 4 ∷ []) $
       -- the plan
       move ! (2 ∷ []) $ use1 W (‵ Own ⊛ ‵ Own) (shr-slice-copy 𝓤 H A W (named 0) κ u8 .twice container (cv ∷ [])) $ split ! $ move ! (3 ∷ 0 ∷ []) $
-      use2 W (raw (ListPlan 𝓤 H A mem run .pre to-plan)) (asked-plan audio-fits (room .0)) $
+      use2 W (raw (ListPlan 𝓤 H A mem run .pre to-plan)) (asked-plan wish-is (room .0)) $
       calls-at ! (fmOf 𝓤 H (W .laws) 𝓣) (ListPlan 𝓤 H A mem run) known-plan to-plan (and-then ! (load ! (from ! (stop !)) (look ! 23 refl)) (and-then ! (load ! (from ! (stop !)) (look ! 21 refl)) (and-then ! (load ! (from ! (stop !)) (look ! 9 refl)) (no-more !)))) (λ u.
-      use1 W (later (some (λ (r : Plan). ((‵ (flft κ q) ⊛ ‵ ftrue) ⊛ ‵ (P.the-row .own r (u ∷ []))) ⊛ raw (ensured 𝓤 H A plan.ended (plan.clauses 𝓤 H A mem run) (κ, tt) (container, (audio, (length list, tt))) tt r)))) (id⊢ 𝓤 _) $ await ! tt $ pick ! (λ p.
+      use1 W (later (some (λ (r : Plan). ((‵ (flft κ q) ⊛ ‵ ftrue) ⊛ ‵ (P.the-row .own r (u ∷ []))) ⊛ raw (ensured 𝓤 H A plan.ended (plan.clauses 𝓤 H A mem run) (κ, tt) (container, (wish, (length list, tt))) tt r)))) (id⊢ 𝓤 _) $ await ! tt $ pick ! (λ p.
       split ! $ move ! (1 ∷ []) $ use1 W (raw (fact 𝓤 (p ≡ told))) (said-plan p) $ heard ! (p ≡ told) (λ e₀. split ! $ move ! (1 ∷ []) $
       peeks ! P.the-row (Is P.the-row) (shows 𝓤 H A P.the-row) p (u ∷ []) (λ is.
       let tells = LL.tells P.the-type P′.the-laws p (u ∷ []) is in
       let plan-is : Is P.the-row p (LL.vals P.the-type P′.the-laws p) = subst (Is P.the-row p) tells is in
       land ! (from ! (stop !)) (init ! 18 refl (LL.lawful P.the-type P′.the-laws 𝓤 H A W .typed p _ is .0)) $
       rewrite ! 18 (λ (v : Val). ‵ (fat fullShare P′.mir l₄ 0 v)) (ap only tells) refl $ drop ! $ move ! (2 ∷ []) $
-      goes-on p e₀ 𝓣 known room audio-fits plan-is l₀ l₁ l₂ l₃ l₄ l₅ l₆ l₇ l₈ l₉ l₁₀ l₁₁))))))))))))))))
+      goes-on p e₀ 𝓣 known room wish-is plan-is l₀ l₁ l₂ l₃ l₄ l₅ l₆ l₇ l₈ l₉ l₁₀ l₁₁))))))))))))))))
 
 module _ {M : Type 1} (𝓤 : URA M) (H : Heap 𝓤) (A : Atoms 𝓤) (W : Given 𝓤 H A) (mem : Memory → SProp 𝓤) (run : Routine → Fun 𝓤) where
   usm-list-walks : (𝓣 : Tables 𝓤 H) → Triple 𝓤 (𝓣 .C #list·list-plan) (ListPlan 𝓤 H A mem run) → Triple 𝓤 (𝓣 .C #list·record-at) (RecordAt 𝓤 H A mem run) → Walks 𝓤 H A f.ended stayed (WpFn 𝓤 H (𝓣 .C) (𝓣 .Λ) code.function) (f.clauses 𝓤 H A mem run)
   usm-list-walks 𝓣 known-plan known = walked 𝓤 H A f.ended stayed (f.clauses 𝓤 H A mem run) (WpFn 𝓤 H (𝓣 .C) (𝓣 .Λ) code.function)
-      (λ κs. (slice-vals, (uint-vals w8, (slice-vals, tt))))
-      (λ κs. (shr-slice-tells (named 0) (κs .0) u8, (uint-tells w8, (mut-slice-tells (named 1) (κs .1 .0) T.the-row, tt))))
+      (λ κs. (slice-vals, (LL.vals B.the-type B′.the-laws, (slice-vals, tt))))
+      (λ κs. (shr-slice-tells (named 0) (κs .0) u8, (LL.tells B.the-type B′.the-laws, (mut-slice-tells (named 1) (κs .1 .0) T.the-row, tt))))
       (λ κs qs bounds a g are. via 𝓤 _ (fst∗ 𝓤 _ (emp 𝓤))
       (walk 𝓤 H A W mem run (κs .0) (κs .1 .0) (qs .0) (qs .1 .0) (a .0) (a .1 .0) (a .1 .1 .0 .ptr .0) (a .1 .1 .0 .ptr .1) (a .1 .1 .0 .name) (a .1 .1 .0 .now) 𝓣 known-plan known
-      (are .0 .0 .1) (are .1 .1 .0 .0 .1) (are .1 .0 .1)))
+      (are .0 .0 .1) (are .1 .1 .0 .0 .1) (are .1 .0)))
 
 usm-list-meets : {M : Type 1} (𝓤 : URA M) (H : Heap 𝓤) (A : Atoms 𝓤) → Given 𝓤 H A → (mem : Memory → SProp 𝓤) (run : Routine → Fun 𝓤) (𝓣 : Tables 𝓤 H) → Triple 𝓤 (𝓣 .C #list·list-plan) (ListPlan 𝓤 H A mem run) → Triple 𝓤 (𝓣 .C #list·record-at) (RecordAt 𝓤 H A mem run)
     → Meets 𝓤 H A f.signature (WpFn 𝓤 H (𝓣 .C) (𝓣 .Λ) code.function) (f.spec 𝓤 H A mem run)
 usm-list-meets 𝓤 H A W mem run 𝓣 known-plan known =
     walk-meets 𝓤 H A f.ended stayed W
-    (goes-none-slice 𝓤 H A W 2 (0 ∷ []) tt (plain (λ _. u8)) yes, (goes-none 𝓤 H A W 2 (λ _. u8) yes (λ κs x f. refl), (goes-slice 𝓤 H A W 2 1 tt (plain (λ _. T.the-row)), tt)))
+    (goes-none-slice 𝓤 H A W 2 (0 ∷ []) tt (plain (λ _. u8)) yes, (goes-none 𝓤 H A W 2 (λ _. B.the-row) yes (λ κs x f. refl), (goes-slice 𝓤 H A W 2 1 tt (plain (λ _. T.the-row)), tt)))
     (f.clauses 𝓤 H A mem run) (WpFn 𝓤 H (𝓣 .C) (𝓣 .Λ) code.function) (WpFn-mono 𝓤 H (W .laws) 𝓣 code.function) (usm-list-walks 𝓤 H A W mem run 𝓣 known-plan known)
 
 pub usm-list-spec : {M : Type 1} → stated.statement M

@@ -1,0 +1,2 @@
+pub mod TableReplies
+pub mod FilmReplies

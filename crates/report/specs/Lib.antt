@@ -1,2 +1,0 @@
-pub mod TableWords
-pub mod FilmWords
