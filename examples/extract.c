@@ -54,8 +54,7 @@ static const char *const CHUNK_KINDS[] = {"video", "audio", "other", "end"};
 struct film {
     uint8_t *bytes;
     size_t len;
-    int keyed;
-    uint64_t key;
+    struct usm_key key;
     /* FILE's folder with its slash, and its name without its ending: the fallback name. */
     char folder[PATH_BYTES], own_name[PATH_BYTES];
 };
@@ -127,28 +126,28 @@ static void split_path(struct film *film, const char *path)
     film->own_name[len] = '\0';
 }
 
-static uint8_t try_to_extract(const struct film *film, struct streams *out, uint64_t *report)
+static struct usm_film_reply try_to_extract(const struct film *film, const struct streams *out)
 {
-    return usm_extract(film->bytes, film->len, 1, (uint8_t)film->keyed, film->key, (const uint8_t *)film->own_name,
-                       strlen(film->own_name), out->video, out->video_len, out->audio, out->audio_len, report,
-                       USM_FILM_WORDS);
+    return usm_extract(film->bytes, film->len, USM_READ_WITH_AUDIO, film->key, (const uint8_t *)film->own_name,
+                       strlen(film->own_name), out->video, out->video_len, out->audio, out->audio_len);
 }
 
-/* Extracts both streams: a first call without outputs tells the sizes, a second one writes. Where both
+/* Extracts both streams: a first call without outputs gives the sizes, a second one writes. Where both
  * are empty the first is accepted, and there is nothing to write. */
-static void extract(const struct film *film, struct streams *out, uint64_t *report)
+static struct usm_film_reply extract(const struct film *film, struct streams *out)
 {
-    uint8_t number = try_to_extract(film, out, report);
+    struct usm_film_reply reply = try_to_extract(film, out);
 
-    if (number == USM_SHORT_OUTPUT) {
-        out->video_len = report[USM_WORD_FIRST];
-        out->audio_len = report[USM_WORD_SECOND];
+    if (reply.number == USM_SHORT_OUTPUT) {
+        out->video_len = reply.video_size;
+        out->audio_len = reply.audio_size;
         out->video = (uint8_t *)room_for(NULL, out->video_len);
         out->audio = (uint8_t *)room_for(NULL, out->audio_len);
-        number = try_to_extract(film, out, report);
+        reply = try_to_extract(film, out);
     }
-    if (number != USM_ACCEPTED)
-        give_up(REFUSED, "refused %d at %" PRIu64 ": %s", number, report[USM_WORD_PLACE], MEANINGS[number]);
+    if (reply.number != USM_ACCEPTED)
+        give_up(REFUSED, "refused %d at %zu: %s", reply.number, reply.refused_at, MEANINGS[reply.number]);
+    return reply;
 }
 
 /* Whether a byte of a film's name may stand in a file's name. Names in Shift-JIS lose most of theirs. */
@@ -180,18 +179,18 @@ static void make_safe(char *safe, const uint8_t *name, size_t len)
 }
 
 /* The name of a film's files: its own, made safe, or that of FILE. */
-static void name_files(const struct film *film, const uint64_t *report, char *name)
+static void name_files(const struct film *film, struct usm_film_reply reply, char *name)
 {
     name[0] = '\0';
-    if (report[USM_WORD_NAME_SOURCE] == USM_NAME_IN_CONTAINER)
-        make_safe(name, film->bytes + report[USM_WORD_NAME_START], report[USM_WORD_NAME_LENGTH]);
+    if (reply.name_source == USM_NAME_IN_CONTAINER)
+        make_safe(name, film->bytes + reply.name_start, reply.name_length);
     if (name[0] == '\0')
         strcpy(name, film->own_name);
 }
 
 /* Writes a stream to a new file, and prints what it is. An empty one may be NULL. */
 static void write_stream(const struct film *film, const char *stream, const char *name, const char *kind,
-                         int has_codec, uint64_t codec, const uint8_t *bytes, size_t len)
+                         int has_codec, uint32_t codec, const uint8_t *bytes, size_t len)
 {
     char path[2 * PATH_BYTES + 8];
     FILE *file;
@@ -202,24 +201,24 @@ static void write_stream(const struct film *film, const char *stream, const char
         give_up(TROUBLE, "%s: %s", path, strerror(errno));
     printf("%s  %s, %zu bytes, ", stream, kind, len);
     if (has_codec)
-        printf("codec %" PRIu64, codec);
+        printf("codec %" PRIu32, codec);
     else
         printf("no codec");
     printf(": %s\n", path);
 }
 
 /* Prints the film's name as it is stored. */
-static void print_name(const struct film *film, const uint64_t *report)
+static void print_name(const struct film *film, struct usm_film_reply reply)
 {
-    const uint8_t *name = film->bytes + report[USM_WORD_NAME_START];
-    uint64_t i;
+    const uint8_t *name = film->bytes + reply.name_start;
+    size_t i;
 
-    if (report[USM_WORD_NAME_SOURCE] == USM_NAME_IN_FALLBACK) {
+    if (reply.name_source == USM_NAME_IN_FALLBACK) {
         printf("name   none\n");
         return;
     }
     printf("name   \"");
-    for (i = 0; i < report[USM_WORD_NAME_LENGTH]; i++) {
+    for (i = 0; i < reply.name_length; i++) {
         if (name[i] >= ' ' && name[i] <= '~' && name[i] != '"' && name[i] != '\\')
             putchar(name[i]);
         else
@@ -228,20 +227,17 @@ static void print_name(const struct film *film, const uint64_t *report)
     printf("\"\n");
 }
 
-/* Prints a line for each chunk. The film was accepted, so with a list of as many records as it has
- * chunks nothing is refused. */
+/* Prints a line for each chunk: a first call without a list gives their count. The film was accepted, so
+ * with a list of as many records nothing is refused. */
 static void print_chunks(const struct film *film)
 {
-    uint64_t report[USM_LIST_WORDS], i;
-    struct usm_chunk *list;
+    size_t count = usm_list(film->bytes, film->len, USM_READ_WITH_AUDIO, NULL, 0).count, i;
+    struct usm_chunk *list = (struct usm_chunk *)room_for(NULL, count * sizeof *list);
 
-    usm_chunks(film->bytes, film->len, 1, SIZE_MAX, report, USM_LIST_WORDS);
-    printf("chunks %" PRIu64 "\n", report[USM_WORD_COUNT]);
-    list = (struct usm_chunk *)room_for(NULL, report[USM_WORD_COUNT] * sizeof *list);
-    usm_list(film->bytes, film->len, 1, list, report[USM_WORD_COUNT]);
-    for (i = 0; i < report[USM_WORD_COUNT]; i++)
-        printf("%" PRIu64 " %s %d %" PRIu64 "\n", list[i].start, CHUNK_KINDS[list[i].kind], list[i].data_type,
-               list[i].length);
+    usm_list(film->bytes, film->len, USM_READ_WITH_AUDIO, list, count);
+    printf("chunks %zu\n", count);
+    for (i = 0; i < count; i++)
+        printf("%zu %s %d %zu\n", list[i].start, CHUNK_KINDS[list[i].kind], list[i].data_type, list[i].length);
     free(list);
 }
 
@@ -249,27 +245,31 @@ int main(int argc, char **argv)
 {
     static struct film film;
     struct streams out = {NULL, NULL, 0, 0};
-    uint64_t report[USM_FILM_WORDS];
+    struct usm_film_reply reply;
     char name[PATH_BYTES];
+    uint64_t key;
 
     if (argc != 2 && argc != 3) {
         fprintf(stderr, "usage: extract FILE [KEY]\n");
         return TROUBLE;
     }
-    film.keyed = argc == 3;
-    if (film.keyed && !read_key(argv[2], &film.key))
-        give_up(TROUBLE, "%s " NO_KEY, argv[2]);
+    film.key = USM_NO_KEY;
+    if (argc == 3) {
+        if (!read_key(argv[2], &key))
+            give_up(TROUBLE, "%s " NO_KEY, argv[2]);
+        film.key = usm_with_key(key);
+    }
     split_path(&film, argv[1]);
     read_film(&film, argv[1]);
 
-    extract(&film, &out, report);
-    name_files(&film, report, name);
-    print_name(&film, report);
-    write_stream(&film, "video", name, report[USM_WORD_VIDEO_KIND] == USM_VIDEO_IVF ? "ivf" : "m2v",
-                 report[USM_WORD_HAS_VIDEO_CODEC] != 0, report[USM_WORD_VIDEO_CODEC], out.video, out.video_len);
-    if (report[USM_WORD_AUDIO])
-        write_stream(&film, "audio", name, report[USM_WORD_AUDIO_KIND] == USM_AUDIO_HCA ? "hca" : "adx",
-                     report[USM_WORD_HAS_AUDIO_CODEC] != 0, report[USM_WORD_AUDIO_CODEC], out.audio, out.audio_len);
+    reply = extract(&film, &out);
+    name_files(&film, reply, name);
+    print_name(&film, reply);
+    write_stream(&film, "video", name, reply.video_kind == USM_VIDEO_IVF ? "ivf" : "m2v", reply.has_video_codec,
+                 reply.video_codec, out.video, out.video_len);
+    if (reply.has_audio)
+        write_stream(&film, "audio", name, reply.audio_kind == USM_AUDIO_HCA ? "hca" : "adx", reply.has_audio_codec,
+                     reply.audio_codec, out.audio, out.audio_len);
     else
         printf("audio  none\n");
     print_chunks(&film);

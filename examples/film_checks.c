@@ -1,7 +1,7 @@
 /*
  * What usm.h says of films and their chunks, tried on example F of document 01 and on the song, with
- * outputs, lists and reports of every length that matters: ends with status 0 and the line "checks
- * passed", or with 1 and the line of the check that failed.
+ * outputs and lists of every length that matters: ends with status 0 and the line "checks passed", or
+ * with 1 and the line of the check that failed.
  */
 #include "check.h"
 #include "films.h"
@@ -17,13 +17,11 @@
 #define OLD 0xA5
 
 /* More than each call is lent, so that what lies past a slice is seen too. */
-#define SPARE_WORDS (USM_FILM_WORDS + 2)
 #define SPARE_CHUNKS (SONG_CHUNKS + 2)
 
 /* All that one call can write. */
 struct lent {
     uint8_t video[SONG_BYTES], audio[SONG_BYTES];
-    uint64_t report[SPARE_WORDS];
     struct usm_chunk list[SPARE_CHUNKS];
 };
 
@@ -48,48 +46,63 @@ static void make_old(void)
     memset(&lent, OLD, sizeof lent);
 }
 
-static uint8_t extract(const uint8_t *film, size_t len, uint8_t audio, uint8_t keyed, size_t video_len,
-                       size_t audio_len, size_t words)
+static struct usm_film_reply extract(const uint8_t *film, size_t len, struct usm_reading reading,
+                                     struct usm_key key, size_t video_len, size_t audio_len)
 {
     make_old();
-    return usm_extract(film, len, audio, keyed, KEY, (const uint8_t *)"own", 3, lent.video, video_len, lent.audio,
-                       audio_len, lent.report, words);
+    return usm_extract(film, len, reading, key, (const uint8_t *)"own", 3, lent.video, video_len, lent.audio,
+                       audio_len);
 }
 
-static uint8_t chunks(const uint8_t *film, size_t len, uint8_t audio, size_t room, size_t words)
+static struct usm_list_reply list(const uint8_t *film, size_t len, struct usm_reading reading, size_t room)
 {
     make_old();
-    return usm_chunks(film, len, audio, room, lent.report, words);
+    return usm_list(film, len, reading, lent.list, room);
 }
 
-static uint8_t list(const uint8_t *film, size_t len, uint8_t audio, size_t room)
+/* Whether two replies are equal, field by field. */
+static int same_film(struct usm_film_reply a, struct usm_film_reply b)
 {
-    make_old();
-    return usm_list(film, len, audio, lent.list, room);
+    return a.refused_at == b.refused_at && a.name_start == b.name_start && a.name_length == b.name_length &&
+           a.video_size == b.video_size && a.audio_size == b.audio_size && a.video_codec == b.video_codec &&
+           a.audio_codec == b.audio_codec && a.number == b.number && a.unknown_type == b.unknown_type &&
+           a.name_source == b.name_source && a.has_audio == b.has_audio && a.has_video_codec == b.has_video_codec &&
+           a.has_audio_codec == b.has_audio_codec && a.video_kind == b.video_kind && a.audio_kind == b.audio_kind;
 }
 
-/* Whether the report is a refusal of a length in words, and nothing else is written. */
-static int is_refusal(size_t words, uint64_t number, uint64_t place, uint64_t first, uint64_t second)
+static int same_list(struct usm_list_reply a, struct usm_list_reply b)
 {
-    size_t i;
-
-    for (i = USM_WORD_SECOND + 1; i < words; i++)
-        if (lent.report[i] != 0)
-            return 0;
-    return lent.report[USM_WORD_NUMBER] == number && lent.report[USM_WORD_PLACE] == place &&
-           lent.report[USM_WORD_FIRST] == first && lent.report[USM_WORD_SECOND] == second &&
-           is_old(lent.report, words * sizeof lent.report[0], sizeof lent.report) &&
-           is_old(lent.video, 0, sizeof lent.video) && is_old(lent.audio, 0, sizeof lent.audio);
+    return a.refused_at == b.refused_at && a.count == b.count && a.number == b.number &&
+           a.unknown_type == b.unknown_type;
 }
 
-/* Whether the first words of the report are these, and those past them as they were. */
-static int is_report(const uint64_t *words, size_t count)
+/* The reply on a film that is refused: all but these fields is 0. */
+static struct usm_film_reply refused_film(uint8_t number, size_t place, size_t video_size, size_t audio_size)
 {
-    return memcmp(lent.report, words, count * sizeof words[0]) == 0 &&
-           is_old(lent.report, count * sizeof words[0], sizeof lent.report);
+    struct usm_film_reply reply;
+
+    memset(&reply, 0, sizeof reply);
+    reply.number = number;
+    reply.refused_at = place;
+    reply.video_size = video_size;
+    reply.audio_size = audio_size;
+    return reply;
 }
 
-static int is_chunk(size_t at, uint64_t start, uint8_t kind, uint8_t data_type, uint64_t length)
+static struct usm_list_reply list_reply(uint8_t number, size_t place, size_t count)
+{
+    struct usm_list_reply reply = {place, count, number, 0};
+
+    return reply;
+}
+
+/* Whether nothing that was lent is written. */
+static int all_is_old(void)
+{
+    return is_old(&lent, 0, sizeof lent);
+}
+
+static int is_chunk(size_t at, size_t start, uint8_t kind, uint8_t data_type, size_t length)
 {
     const struct usm_chunk *chunk = &lent.list[at];
 
@@ -102,9 +115,23 @@ static int list_is_old(size_t from)
     return is_old(lent.list, from * sizeof lent.list[0], sizeof lent.list);
 }
 
-/* The record is laid out as the library has it. */
+/* The structs are laid out as the library has them. */
 static void try_layout(void)
 {
+    CHECK(sizeof(struct usm_reading) == 4);
+    CHECK(offsetof(struct usm_reading, tables) == 3);
+    CHECK(sizeof(struct usm_key) == 16);
+    CHECK(offsetof(struct usm_key, given) == 8);
+    CHECK(sizeof(struct usm_table_reply) == 32);
+    CHECK(offsetof(struct usm_table_reply, unknown_type) == 25);
+    CHECK(sizeof(struct usm_cell_reply) == 32);
+    CHECK(offsetof(struct usm_cell_reply, kind) == 26);
+    CHECK(sizeof(struct usm_film_reply) == 56);
+    CHECK(offsetof(struct usm_film_reply, video_codec) == 40);
+    CHECK(offsetof(struct usm_film_reply, number) == 48);
+    CHECK(offsetof(struct usm_film_reply, audio_kind) == 55);
+    CHECK(sizeof(struct usm_list_reply) == 24);
+    CHECK(offsetof(struct usm_list_reply, unknown_type) == 17);
     CHECK(sizeof(struct usm_chunk) == 24);
     CHECK(offsetof(struct usm_chunk, start) == 0);
     CHECK(offsetof(struct usm_chunk, kind) == 8);
@@ -112,102 +139,71 @@ static void try_layout(void)
     CHECK(offsetof(struct usm_chunk, length) == 16);
 }
 
-/* F's video stream is 32 zeros, and it has no audio. */
+/* F's video stream is 32 zeros, it has no audio, and its name is the fallback. */
 static void try_outputs_on_f(void)
 {
-    static const uint64_t WORDS[USM_FILM_WORDS] = {0, 0, 0, 0, USM_NAME_IN_FALLBACK, 0, 3, 0, 0, 0, 0, 0, 0, 0, 32, 0};
     static const uint8_t ZEROS[32] = {0};
+    struct usm_film_reply accepted = refused_film(USM_ACCEPTED, 0, 32, 0);
     size_t video_len, audio_len;
 
+    accepted.name_source = USM_NAME_IN_FALLBACK;
+    accepted.name_length = 3;
     for (audio_len = 0; audio_len <= 1; audio_len++) {
         for (video_len = 0; video_len <= 31; video_len++) {
-            CHECK(extract(f, F_BYTES, 1, 0, video_len, audio_len, USM_FILM_WORDS) == USM_SHORT_OUTPUT);
-            CHECK(is_refusal(USM_FILM_WORDS, USM_SHORT_OUTPUT, 0, 32, 0));
+            CHECK(same_film(extract(f, F_BYTES, USM_READ_WITH_AUDIO, USM_NO_KEY, video_len, audio_len),
+                            refused_film(USM_SHORT_OUTPUT, 0, 32, 0)));
+            CHECK(all_is_old());
         }
         for (video_len = 32; video_len <= 33; video_len++) {
-            CHECK(extract(f, F_BYTES, 1, 0, video_len, audio_len, USM_FILM_WORDS) == USM_ACCEPTED);
-            CHECK(is_report(WORDS, USM_FILM_WORDS));
+            CHECK(same_film(extract(f, F_BYTES, USM_READ_WITH_AUDIO, USM_NO_KEY, video_len, audio_len), accepted));
             CHECK(memcmp(lent.video, ZEROS, 32) == 0 && is_old(lent.video, 32, sizeof lent.video));
             CHECK(is_old(lent.audio, 0, sizeof lent.audio));
         }
     }
-    CHECK(extract(f, F_BYTES, 0, 1, F_BYTES, F_BYTES, USM_FILM_WORDS) == USM_ACCEPTED);
-    CHECK(is_report(WORDS, USM_FILM_WORDS));
+    CHECK(same_film(extract(f, F_BYTES, USM_READ_VIDEO_ONLY, usm_with_key(KEY), F_BYTES, F_BYTES), accepted));
 }
 
 /* F's two chunks. */
 static void try_lists_on_f(void)
 {
-    static const uint64_t WORDS[USM_LIST_WORDS] = {0, 0, 0, 0, 2};
     size_t room;
 
     for (room = 0; room <= 1; room++) {
-        CHECK(chunks(f, F_BYTES, 1, room, USM_LIST_WORDS) == USM_SHORT_LIST);
-        CHECK(is_refusal(USM_LIST_WORDS, USM_SHORT_LIST, 0, 2, 0));
-        CHECK(list(f, F_BYTES, 1, room) == USM_SHORT_LIST);
-        CHECK(list_is_old(0));
+        CHECK(same_list(list(f, F_BYTES, USM_READ_WITH_AUDIO, room), list_reply(USM_SHORT_LIST, 0, 2)));
+        CHECK(all_is_old());
     }
     for (room = 2; room <= 3; room++) {
-        CHECK(chunks(f, F_BYTES, 1, room, USM_LIST_WORDS) == USM_ACCEPTED);
-        CHECK(is_report(WORDS, USM_LIST_WORDS));
-        CHECK(list(f, F_BYTES, 1, room) == USM_ACCEPTED);
+        CHECK(same_list(list(f, F_BYTES, USM_READ_WITH_AUDIO, room), list_reply(USM_ACCEPTED, 0, 2)));
         CHECK(is_chunk(0, F_VIDEO, USM_CHUNK_VIDEO, 0, 32));
         CHECK(is_chunk(1, F_END, USM_CHUNK_END, 0, 0));
         CHECK(list_is_old(2));
     }
-    CHECK(chunks(f, F_BYTES, 1, SIZE_MAX, USM_LIST_WORDS) == USM_ACCEPTED);
-    CHECK(is_report(WORDS, USM_LIST_WORDS));
-}
-
-/* A report that is too short is not written, and neither is an output. */
-static void try_short_reports(void)
-{
-    size_t words;
-
-    for (words = 0; words < USM_FILM_WORDS; words++) {
-        CHECK(extract(f, F_BYTES, 1, 0, 32, 0, words) == USM_SHORT_REPORT);
-        CHECK(is_old(&lent, 0, sizeof lent));
-        CHECK(extract(f, 3, 1, 0, 32, 0, words) == USM_SHORT_REPORT);
-        CHECK(is_old(&lent, 0, sizeof lent));
-    }
-    for (words = 0; words < USM_LIST_WORDS; words++) {
-        CHECK(chunks(f, F_BYTES, 1, 2, words) == USM_SHORT_REPORT);
-        CHECK(is_old(&lent, 0, sizeof lent));
-    }
-    CHECK(extract(f, F_BYTES, 1, 0, 32, 0, SPARE_WORDS) == USM_ACCEPTED);
-    CHECK(is_old(lent.report, USM_FILM_WORDS * 8, sizeof lent.report));
-    CHECK(chunks(f, F_BYTES, 1, 2, SPARE_WORDS) == USM_ACCEPTED);
-    CHECK(is_old(lent.report, USM_LIST_WORDS * 8, sizeof lent.report));
 }
 
 /* NULL is allowed where the length is 0. */
 static void try_null(void)
 {
-    make_old();
-    CHECK(usm_extract(NULL, 0, 1, 0, 0, NULL, 0, NULL, 0, NULL, 0, lent.report, USM_FILM_WORDS) == USM_RAN_OUT);
-    CHECK(is_refusal(USM_FILM_WORDS, USM_RAN_OUT, 0, 0, 0));
-    CHECK(usm_extract(f, F_BYTES, 1, 0, 0, NULL, 0, lent.video, 32, NULL, 0, NULL, 0) == USM_SHORT_REPORT);
-    CHECK(usm_chunks(NULL, 0, 1, 0, lent.report, USM_LIST_WORDS) == USM_RAN_OUT);
-    CHECK(usm_chunks(f, F_BYTES, 1, 0, NULL, 0) == USM_SHORT_REPORT);
-    CHECK(usm_list(f, F_BYTES, 1, NULL, 0) == USM_SHORT_LIST);
+    CHECK(same_film(usm_extract(NULL, 0, USM_READ_WITH_AUDIO, USM_NO_KEY, NULL, 0, NULL, 0, NULL, 0),
+                    refused_film(USM_RAN_OUT, 0, 0, 0)));
+    CHECK(same_film(usm_extract(f, F_BYTES, USM_READ_WITH_AUDIO, USM_NO_KEY, NULL, 0, NULL, 0, NULL, 0),
+                    refused_film(USM_SHORT_OUTPUT, 0, 32, 0)));
+    CHECK(same_list(usm_list(NULL, 0, USM_READ_WITH_AUDIO, NULL, 0), list_reply(USM_RAN_OUT, 0, 0)));
+    CHECK(same_list(usm_list(f, F_BYTES, USM_READ_WITH_AUDIO, NULL, 0), list_reply(USM_SHORT_LIST, 0, 2)));
 }
 
-/* F cut to a length, or followed by zeros: the same answer of all three, however much is lent. */
-static void try_length(size_t len, uint8_t number, uint64_t place, uint64_t count)
+/* F cut to a length, or followed by zeros: the same answer of both, however much is lent. */
+static void try_length(size_t len, uint8_t number, size_t place, size_t count)
 {
     size_t room;
 
     for (room = 0; room <= 64; room += 64) {
-        uint8_t given = extract(f, len, 1, 0, room, room, USM_FILM_WORDS);
+        struct usm_film_reply reply = extract(f, len, USM_READ_WITH_AUDIO, USM_NO_KEY, room, room);
 
-        CHECK(given == (number == USM_ACCEPTED && count != 0 && room == 0 ? USM_SHORT_OUTPUT : number));
-        CHECK(number == USM_ACCEPTED || is_refusal(USM_FILM_WORDS, number, place, 0, 0));
+        CHECK(reply.number == (number == USM_ACCEPTED && count != 0 && room == 0 ? USM_SHORT_OUTPUT : number));
+        CHECK(number == USM_ACCEPTED || (same_film(reply, refused_film(number, place, 0, 0)) && all_is_old()));
     }
-    CHECK(chunks(f, len, 1, count, USM_LIST_WORDS) == number);
-    CHECK(number == USM_ACCEPTED || is_refusal(USM_LIST_WORDS, number, place, 0, 0));
-    CHECK(number != USM_ACCEPTED || lent.report[USM_WORD_COUNT] == count);
-    CHECK(list(f, len, 1, count) == number);
-    CHECK(number == USM_ACCEPTED || list_is_old(0));
+    CHECK(same_list(list(f, len, USM_READ_WITH_AUDIO, count), list_reply(number, place, count)));
+    CHECK(number == USM_ACCEPTED || all_is_old());
 }
 
 /* The cuts and paddings that document 01 has, and a film that is none. */
@@ -228,65 +224,98 @@ static void try_lengths_of_f(void)
     f[0] = 'C';
 }
 
+/* The column type that is unknown is in both replies. */
+static void try_unknown_type(void)
+{
+    uint8_t film[128] = {0};
+    struct usm_film_reply refused = refused_film(USM_UNKNOWN_TYPE, 0, 0, 0);
+    struct usm_list_reply listed = list_reply(USM_UNKNOWN_TYPE, 0, 0);
+
+    memcpy(film, f, 64);
+    put32(film + 32 + 4, 32);  /* the table of F's first block has 8 bytes more */
+    put32(film + 32 + 12, 29); /* strings start in its sixth byte, which is zero */
+    put16(film + 32 + 24, 1);  /* one column */
+    film[64] = 0x37;           /* a constant of type 7 */
+    refused.unknown_type = 7;
+    listed.unknown_type = 7;
+    CHECK(same_film(extract(film, sizeof film, USM_READ_WITH_AUDIO, USM_NO_KEY, 0, 0), refused));
+    CHECK(same_list(list(film, sizeof film, USM_READ_WITH_AUDIO, 0), listed));
+}
+
+/* Every number but 0 takes audio and gives a key; the other fields change nothing. */
+static void try_every_number(void)
+{
+    const uint8_t *film = song.stored.bytes;
+    size_t len = song.stored.len;
+    struct usm_reading reading = {255, 1, 2, 3}, without = {0, 255, 255, 255};
+    struct usm_key key = {KEY, 255}, none = {KEY, 0};
+
+    CHECK(same_film(extract(film, len, reading, key, len, len),
+                    extract(film, len, USM_READ_WITH_AUDIO, usm_with_key(KEY), len, len)));
+    extract(film, len, reading, key, len, len);
+    CHECK(memcmp(lent.video, song.video, song.video_len) == 0);
+    extract(film, len, without, none, len, len);
+    CHECK(memcmp(lent.video, song.video, song.video_len) != 0);
+    CHECK(is_old(lent.audio, 0, sizeof lent.audio));
+}
+
 /* The song: both outputs exact, one short, one long. */
 static void try_outputs_on_the_song(void)
 {
     const uint8_t *film = song.stored.bytes;
-    size_t len = song.stored.len, video_len = song.video_len, audio_len = song.audio_len;
+    size_t len = song.stored.len, video_len = song.video_len, audio_len = song.audio_len, more;
+    struct usm_film_reply refused = refused_film(USM_SHORT_OUTPUT, 0, video_len, audio_len);
+    struct usm_key key = usm_with_key(KEY);
 
-    CHECK(extract(film, len, 1, 1, 0, 0, USM_FILM_WORDS) == USM_SHORT_OUTPUT);
-    CHECK(is_refusal(USM_FILM_WORDS, USM_SHORT_OUTPUT, 0, video_len, audio_len));
-    CHECK(extract(film, len, 1, 1, video_len - 1, audio_len + 1, USM_FILM_WORDS) == USM_SHORT_OUTPUT);
-    CHECK(is_refusal(USM_FILM_WORDS, USM_SHORT_OUTPUT, 0, video_len, audio_len));
-    CHECK(extract(film, len, 1, 1, video_len + 1, audio_len - 1, USM_FILM_WORDS) == USM_SHORT_OUTPUT);
-    CHECK(is_refusal(USM_FILM_WORDS, USM_SHORT_OUTPUT, 0, video_len, audio_len));
+    CHECK(same_film(extract(film, len, USM_READ_WITH_AUDIO, key, 0, 0), refused));
+    CHECK(all_is_old());
+    CHECK(same_film(extract(film, len, USM_READ_WITH_AUDIO, key, video_len - 1, audio_len + 1), refused));
+    CHECK(all_is_old());
+    CHECK(same_film(extract(film, len, USM_READ_WITH_AUDIO, key, video_len + 1, audio_len - 1), refused));
+    CHECK(all_is_old());
 
-    CHECK(extract(film, len, 1, 1, video_len, audio_len, USM_FILM_WORDS) == USM_ACCEPTED);
-    CHECK(memcmp(lent.video, song.video, video_len) == 0 && is_old(lent.video, video_len, sizeof lent.video));
-    CHECK(memcmp(lent.audio, song.audio, audio_len) == 0 && is_old(lent.audio, audio_len, sizeof lent.audio));
-    CHECK(extract(film, len, 1, 1, video_len + 1, audio_len + 1, USM_FILM_WORDS) == USM_ACCEPTED);
-    CHECK(memcmp(lent.video, song.video, video_len) == 0 && is_old(lent.video, video_len, sizeof lent.video));
-    CHECK(memcmp(lent.audio, song.audio, audio_len) == 0 && is_old(lent.audio, audio_len, sizeof lent.audio));
+    for (more = 0; more <= 1; more++) {
+        CHECK(extract(film, len, USM_READ_WITH_AUDIO, key, video_len + more, audio_len + more).number == USM_ACCEPTED);
+        CHECK(memcmp(lent.video, song.video, video_len) == 0 && is_old(lent.video, video_len, sizeof lent.video));
+        CHECK(memcmp(lent.audio, song.audio, audio_len) == 0 && is_old(lent.audio, audio_len, sizeof lent.audio));
+    }
 }
 
-/* The song's words, with and without audio and key. */
-static void try_words_of_the_song(void)
+/* What the song holds, with and without audio and key. */
+static void try_replies_on_the_song(void)
 {
     const uint8_t *film = song.stored.bytes;
     size_t len = song.stored.len;
-    uint64_t words[USM_FILM_WORDS] = {0, 0, 0, 0, USM_NAME_IN_CONTAINER, 0, strlen(SONG_NAME), 1, 1, 1, 1, 2,
-                                      USM_VIDEO_M2V, USM_AUDIO_ADX, song.video_len, song.audio_len};
+    struct usm_film_reply reply = extract(film, len, USM_READ_WITH_AUDIO, usm_with_key(KEY), len, len);
+    struct usm_film_reply expected = {0, reply.name_start, strlen(SONG_NAME), song.video_len, song.audio_len, 1, 2,
+                                      USM_ACCEPTED, 0, USM_NAME_IN_CONTAINER, 1, 1, 1, USM_VIDEO_M2V, USM_AUDIO_ADX};
 
-    CHECK(extract(film, len, 1, 1, len, len, USM_FILM_WORDS) == USM_ACCEPTED);
-    words[USM_WORD_NAME_START] = lent.report[USM_WORD_NAME_START];
-    CHECK(is_report(words, USM_FILM_WORDS));
-    CHECK(memcmp(film + words[USM_WORD_NAME_START], SONG_NAME, strlen(SONG_NAME)) == 0);
+    CHECK(same_film(reply, expected));
+    CHECK(memcmp(film + reply.name_start, SONG_NAME, strlen(SONG_NAME)) == 0);
 
-    CHECK(extract(film, len, 255, 0, len, len, USM_FILM_WORDS) == USM_ACCEPTED);
-    CHECK(is_report(words, USM_FILM_WORDS));
+    CHECK(same_film(extract(film, len, USM_READ_WITH_AUDIO, USM_NO_KEY, len, len), expected));
     CHECK(memcmp(lent.video, film + 704 + 32, 0x260) == 0);
     CHECK(memcmp(lent.video, song.video, song.video_len) != 0);
 
-    words[USM_WORD_AUDIO_SIZE] = 0;
-    CHECK(extract(film, len, 0, 1, song.video_len, 0, USM_FILM_WORDS) == USM_ACCEPTED);
-    CHECK(is_report(words, USM_FILM_WORDS));
+    expected.audio_size = 0;
+    CHECK(same_film(extract(film, len, USM_READ_VIDEO_ONLY, usm_with_key(KEY), song.video_len, 0), expected));
     CHECK(memcmp(lent.video, song.video, song.video_len) == 0);
     CHECK(is_old(lent.audio, 0, sizeof lent.audio));
 }
 
-/* The song's chunks, with audio and without: then its length is 0, and its kind stays. */
+/* The song's chunks, with audio and without: then its length is 0, and its kind is the same. */
 static void try_lists_on_the_song(void)
 {
     const uint8_t *film = song.stored.bytes;
     size_t len = song.stored.len;
-    uint8_t audio;
+    int audio;
 
     for (audio = 0; audio <= 1; audio++) {
-        CHECK(chunks(film, len, audio, SONG_CHUNKS - 1, USM_LIST_WORDS) == USM_SHORT_LIST);
-        CHECK(is_refusal(USM_LIST_WORDS, USM_SHORT_LIST, 0, SONG_CHUNKS, 0));
-        CHECK(list(film, len, audio, SONG_CHUNKS - 1) == USM_SHORT_LIST);
-        CHECK(list_is_old(0));
-        CHECK(list(film, len, audio, SONG_CHUNKS + 1) == USM_ACCEPTED);
+        struct usm_reading reading = audio ? USM_READ_WITH_AUDIO : USM_READ_VIDEO_ONLY;
+
+        CHECK(same_list(list(film, len, reading, SONG_CHUNKS - 1), list_reply(USM_SHORT_LIST, 0, SONG_CHUNKS)));
+        CHECK(all_is_old());
+        CHECK(same_list(list(film, len, reading, SONG_CHUNKS + 1), list_reply(USM_ACCEPTED, 0, SONG_CHUNKS)));
         CHECK(is_chunk(0, 704, USM_CHUNK_VIDEO, 0, 0x260));
         CHECK(is_chunk(1, 1344, USM_CHUNK_AUDIO, 0, audio ? 0x190 : 0));
         CHECK(is_chunk(2, 1792, USM_CHUNK_VIDEO, 0, 0x100));
@@ -306,11 +335,12 @@ int main(void)
     try_layout();
     try_outputs_on_f();
     try_lists_on_f();
-    try_short_reports();
     try_null();
     try_lengths_of_f();
+    try_unknown_type();
+    try_every_number();
     try_outputs_on_the_song();
-    try_words_of_the_song();
+    try_replies_on_the_song();
     try_lists_on_the_song();
     printf("checks passed\n");
     return 0;

@@ -4,7 +4,7 @@
  *     films FOLDER KEY  KEY in hex
  *
  * f.usm is example F of document 01, cut.usm its first 428 bytes, which are refused, and empty.usm its
- * first 301 bytes, a film without chunks. song.usm is a film with sound, masked under the key;
+ * first 301 bytes, a film without chunks. song.usm is a film with audio, masked under the key;
  * song.video and song.audio are its two clear streams.
  */
 #include "films.h"

@@ -1,6 +1,6 @@
 /*
  * Two small films, made in memory, for programs that try usm.h: example F of document 01, and the song,
- * a film with a name, both codecs, ADX sound, metadata of both streams, and masked payloads.
+ * a film with a name, both codecs, ADX audio, metadata of both streams, and masked payloads.
  */
 #ifndef FILMS_H
 #define FILMS_H

@@ -20,26 +20,25 @@ static const uint8_t TABLE[] = {
 
 static void print_cell(const char *name, size_t row)
 {
-    uint64_t report[USM_CELL_WORDS];
+    struct usm_cell_reply cell = usm_cell(TABLE, sizeof TABLE, 0, (const uint8_t *)name, strlen(name), row);
 
-    usm_cell(TABLE, sizeof TABLE, 0, (const uint8_t *)name, strlen(name), row, report, USM_CELL_WORDS);
     printf("%s, row %zu: ", name, row);
-    if (report[USM_WORD_CASE] == USM_CELL_SIGNED)
-        printf("%" PRId64 "\n", (int64_t)report[USM_WORD_VALUE]);
-    else if (report[USM_WORD_CASE] == USM_CELL_STRING)
-        printf("\"%.*s\"\n", (int)report[USM_WORD_LENGTH], (const char *)TABLE + report[USM_WORD_VALUE]);
-    else
-        printf("case %" PRIu64 "\n", report[USM_WORD_CASE]);
+    if (cell.kind == USM_CELL_SIGNED)
+        printf("%" PRId64 "\n", (int64_t)cell.value);
+    else if (cell.kind == USM_CELL_STRING)
+        printf("\"%.*s\"\n", (int)cell.length, (const char *)TABLE + cell.value);
+    else if (cell.kind == USM_CELL_NOTHING)
+        printf("nothing\n");
 }
 
 static void print_table(const char *what, const uint8_t *bytes, size_t len)
 {
-    uint64_t report[USM_TABLE_WORDS];
+    struct usm_table_reply table = usm_table(bytes, len, 0);
 
-    if (usm_table(bytes, len, 0, report, USM_TABLE_WORDS) == USM_ACCEPTED)
-        printf("%s: %" PRIu64 " columns, %" PRIu64 " rows\n", what, report[USM_WORD_COLUMNS], report[USM_WORD_ROWS]);
+    if (table.number == USM_ACCEPTED)
+        printf("%s: %zu columns, %zu rows\n", what, table.columns, table.rows);
     else
-        printf("%s: refused %" PRIu64 " at %" PRIu64 "\n", what, report[USM_WORD_NUMBER], report[USM_WORD_PLACE]);
+        printf("%s: refused %d at %zu\n", what, table.number, table.refused_at);
 }
 
 int main(void)
