@@ -5,6 +5,7 @@
  */
 #include "check.h"
 #include "films.h"
+#include "replies.h"
 #include "usm.h"
 
 #include <stddef.h>
@@ -60,42 +61,6 @@ static struct usm_list_reply list(const uint8_t *film, size_t len, struct usm_re
     return usm_list(film, len, reading, lent.list, room);
 }
 
-/* Whether two replies are equal, field by field. */
-static int same_film(struct usm_film_reply a, struct usm_film_reply b)
-{
-    return a.refused_at == b.refused_at && a.name_start == b.name_start && a.name_length == b.name_length &&
-           a.video_size == b.video_size && a.audio_size == b.audio_size && a.video_codec == b.video_codec &&
-           a.audio_codec == b.audio_codec && a.number == b.number && a.unknown_type == b.unknown_type &&
-           a.name_source == b.name_source && a.has_audio == b.has_audio && a.has_video_codec == b.has_video_codec &&
-           a.has_audio_codec == b.has_audio_codec && a.video_kind == b.video_kind && a.audio_kind == b.audio_kind;
-}
-
-static int same_list(struct usm_list_reply a, struct usm_list_reply b)
-{
-    return a.refused_at == b.refused_at && a.count == b.count && a.number == b.number &&
-           a.unknown_type == b.unknown_type;
-}
-
-/* The reply on a film that is refused: all but these fields is 0. */
-static struct usm_film_reply refused_film(uint8_t number, size_t place, size_t video_size, size_t audio_size)
-{
-    struct usm_film_reply reply;
-
-    memset(&reply, 0, sizeof reply);
-    reply.number = number;
-    reply.refused_at = place;
-    reply.video_size = video_size;
-    reply.audio_size = audio_size;
-    return reply;
-}
-
-static struct usm_list_reply list_reply(uint8_t number, size_t place, size_t count)
-{
-    struct usm_list_reply reply = {place, count, number, 0};
-
-    return reply;
-}
-
 /* Whether nothing that was lent is written. */
 static int all_is_old(void)
 {
@@ -143,7 +108,7 @@ static void try_layout(void)
 static void try_outputs_on_f(void)
 {
     static const uint8_t ZEROS[32] = {0};
-    struct usm_film_reply accepted = refused_film(USM_ACCEPTED, 0, 32, 0);
+    struct usm_film_reply accepted = refused_film(USM_ACCEPTED, 0, 32, 0, 0);
     size_t video_len, audio_len;
 
     accepted.name_source = USM_NAME_IN_FALLBACK;
@@ -151,7 +116,7 @@ static void try_outputs_on_f(void)
     for (audio_len = 0; audio_len <= 1; audio_len++) {
         for (video_len = 0; video_len <= 31; video_len++) {
             CHECK(same_film(extract(f, F_BYTES, USM_READ_WITH_AUDIO, USM_NO_KEY, video_len, audio_len),
-                            refused_film(USM_SHORT_OUTPUT, 0, 32, 0)));
+                            refused_film(USM_SHORT_OUTPUT, 0, 32, 0, 0)));
             CHECK(all_is_old());
         }
         for (video_len = 32; video_len <= 33; video_len++) {
@@ -169,11 +134,11 @@ static void try_lists_on_f(void)
     size_t room;
 
     for (room = 0; room <= 1; room++) {
-        CHECK(same_list(list(f, F_BYTES, USM_READ_WITH_AUDIO, room), list_reply(USM_SHORT_LIST, 0, 2)));
+        CHECK(same_list(list(f, F_BYTES, USM_READ_WITH_AUDIO, room), list_reply(USM_SHORT_LIST, 0, 2, 0)));
         CHECK(all_is_old());
     }
     for (room = 2; room <= 3; room++) {
-        CHECK(same_list(list(f, F_BYTES, USM_READ_WITH_AUDIO, room), list_reply(USM_ACCEPTED, 0, 2)));
+        CHECK(same_list(list(f, F_BYTES, USM_READ_WITH_AUDIO, room), list_reply(USM_ACCEPTED, 0, 2, 0)));
         CHECK(is_chunk(0, F_VIDEO, USM_CHUNK_VIDEO, 0, 32));
         CHECK(is_chunk(1, F_END, USM_CHUNK_END, 0, 0));
         CHECK(list_is_old(2));
@@ -184,11 +149,11 @@ static void try_lists_on_f(void)
 static void try_null(void)
 {
     CHECK(same_film(usm_extract(NULL, 0, USM_READ_WITH_AUDIO, USM_NO_KEY, NULL, 0, NULL, 0, NULL, 0),
-                    refused_film(USM_RAN_OUT, 0, 0, 0)));
+                    refused_film(USM_RAN_OUT, 0, 0, 0, 0)));
     CHECK(same_film(usm_extract(f, F_BYTES, USM_READ_WITH_AUDIO, USM_NO_KEY, NULL, 0, NULL, 0, NULL, 0),
-                    refused_film(USM_SHORT_OUTPUT, 0, 32, 0)));
-    CHECK(same_list(usm_list(NULL, 0, USM_READ_WITH_AUDIO, NULL, 0), list_reply(USM_RAN_OUT, 0, 0)));
-    CHECK(same_list(usm_list(f, F_BYTES, USM_READ_WITH_AUDIO, NULL, 0), list_reply(USM_SHORT_LIST, 0, 2)));
+                    refused_film(USM_SHORT_OUTPUT, 0, 32, 0, 0)));
+    CHECK(same_list(usm_list(NULL, 0, USM_READ_WITH_AUDIO, NULL, 0), list_reply(USM_RAN_OUT, 0, 0, 0)));
+    CHECK(same_list(usm_list(f, F_BYTES, USM_READ_WITH_AUDIO, NULL, 0), list_reply(USM_SHORT_LIST, 0, 2, 0)));
 }
 
 /* F cut to a length, or followed by zeros: the same answer of both, however much is lent. */
@@ -200,9 +165,9 @@ static void try_length(size_t len, uint8_t number, size_t place, size_t count)
         struct usm_film_reply reply = extract(f, len, USM_READ_WITH_AUDIO, USM_NO_KEY, room, room);
 
         CHECK(reply.number == (number == USM_ACCEPTED && count != 0 && room == 0 ? USM_SHORT_OUTPUT : number));
-        CHECK(number == USM_ACCEPTED || (same_film(reply, refused_film(number, place, 0, 0)) && all_is_old()));
+        CHECK(number == USM_ACCEPTED || (same_film(reply, refused_film(number, place, 0, 0, 0)) && all_is_old()));
     }
-    CHECK(same_list(list(f, len, USM_READ_WITH_AUDIO, count), list_reply(number, place, count)));
+    CHECK(same_list(list(f, len, USM_READ_WITH_AUDIO, count), list_reply(number, place, count, 0)));
     CHECK(number == USM_ACCEPTED || all_is_old());
 }
 
@@ -228,16 +193,14 @@ static void try_lengths_of_f(void)
 static void try_unknown_type(void)
 {
     uint8_t film[128] = {0};
-    struct usm_film_reply refused = refused_film(USM_UNKNOWN_TYPE, 0, 0, 0);
-    struct usm_list_reply listed = list_reply(USM_UNKNOWN_TYPE, 0, 0);
+    struct usm_film_reply refused = refused_film(USM_UNKNOWN_TYPE, 0, 0, 0, 7);
+    struct usm_list_reply listed = list_reply(USM_UNKNOWN_TYPE, 0, 0, 7);
 
     memcpy(film, f, 64);
     put32(film + 32 + 4, 32);  /* the table of F's first block has 8 bytes more */
     put32(film + 32 + 12, 29); /* strings start in its sixth byte, which is zero */
     put16(film + 32 + 24, 1);  /* one column */
     film[64] = 0x37;           /* a constant of type 7 */
-    refused.unknown_type = 7;
-    listed.unknown_type = 7;
     CHECK(same_film(extract(film, sizeof film, USM_READ_WITH_AUDIO, USM_NO_KEY, 0, 0), refused));
     CHECK(same_list(list(film, sizeof film, USM_READ_WITH_AUDIO, 0), listed));
 }
@@ -264,7 +227,7 @@ static void try_outputs_on_the_song(void)
 {
     const uint8_t *film = song.stored.bytes;
     size_t len = song.stored.len, video_len = song.video_len, audio_len = song.audio_len, more;
-    struct usm_film_reply refused = refused_film(USM_SHORT_OUTPUT, 0, video_len, audio_len);
+    struct usm_film_reply refused = refused_film(USM_SHORT_OUTPUT, 0, video_len, audio_len, 0);
     struct usm_key key = usm_with_key(KEY);
 
     CHECK(same_film(extract(film, len, USM_READ_WITH_AUDIO, key, 0, 0), refused));
@@ -313,9 +276,9 @@ static void try_lists_on_the_song(void)
     for (audio = 0; audio <= 1; audio++) {
         struct usm_reading reading = audio ? USM_READ_WITH_AUDIO : USM_READ_VIDEO_ONLY;
 
-        CHECK(same_list(list(film, len, reading, SONG_CHUNKS - 1), list_reply(USM_SHORT_LIST, 0, SONG_CHUNKS)));
+        CHECK(same_list(list(film, len, reading, SONG_CHUNKS - 1), list_reply(USM_SHORT_LIST, 0, SONG_CHUNKS, 0)));
         CHECK(all_is_old());
-        CHECK(same_list(list(film, len, reading, SONG_CHUNKS + 1), list_reply(USM_ACCEPTED, 0, SONG_CHUNKS)));
+        CHECK(same_list(list(film, len, reading, SONG_CHUNKS + 1), list_reply(USM_ACCEPTED, 0, SONG_CHUNKS, 0)));
         CHECK(is_chunk(0, 704, USM_CHUNK_VIDEO, 0, 0x260));
         CHECK(is_chunk(1, 1344, USM_CHUNK_AUDIO, 0, audio ? 0x190 : 0));
         CHECK(is_chunk(2, 1792, USM_CHUNK_VIDEO, 0, 0x100));

@@ -1,5 +1,5 @@
 /*
- * The ten exported functions, each call counted, with the answer that it gives.
+ * The nine exported functions, each call counted, with the number that it gives.
  */
 #ifndef CALLS_H
 #define CALLS_H
@@ -15,7 +15,6 @@ enum call {
     TABLE,
     CELL,
     EXTRACT,
-    CHUNKS,
     LIST,
     CALLS
 };

@@ -17,7 +17,7 @@
 static const uint8_t TABLE[] = {'@', 'U', 'T', 'F', 0, 0, 0, 33, 0, 1, 0, 30, 0, 0, 0, 30, 0, 0, 0, 33, 0,
                                 0,   0,   0,   0,   1, 0, 0, 0,  0, 0, 1, 0x30, 0, 0, 0, 0, 7, 'i', 'd', 0};
 
-static struct memory read_only, second_read_only, written, second_written, report_memory;
+static struct memory read_only, second_read_only, written, second_written;
 static struct chance chance;
 static struct song song;
 static uint8_t f[F_BYTES];
@@ -26,11 +26,6 @@ static uint8_t f[F_BYTES];
 static uint8_t *lacking(struct memory *memory, size_t len, size_t lacks)
 {
     return lend_output(memory, ENDS, len - lacks, &chance).at;
-}
-
-static uint64_t *report_of(size_t words, size_t lacks)
-{
-    return (uint64_t *)(void *)lacking(&report_memory, 8 * words, 8 * lacks);
 }
 
 static const uint8_t *film_of(const uint8_t *bytes, size_t len, size_t lacks)
@@ -66,84 +61,61 @@ static void mask_audio(size_t lacks)
 
 static void table(size_t lacks)
 {
-    usm_table(film_of(TABLE, sizeof TABLE, lacks), sizeof TABLE, 0, report_of(USM_TABLE_WORDS, 0), USM_TABLE_WORDS);
-}
-
-static void table_report(size_t lacks)
-{
-    usm_table(film_of(TABLE, sizeof TABLE, 0), sizeof TABLE, 0, report_of(USM_TABLE_WORDS, lacks), USM_TABLE_WORDS);
+    usm_table(film_of(TABLE, sizeof TABLE, lacks), sizeof TABLE, 0);
 }
 
 static void cell(size_t lacks)
 {
-    usm_cell(film_of(TABLE, sizeof TABLE, lacks), sizeof TABLE, 0, (const uint8_t *)"id", 2, 0,
-             report_of(USM_CELL_WORDS, 0), USM_CELL_WORDS);
+    usm_cell(film_of(TABLE, sizeof TABLE, lacks), sizeof TABLE, 0, (const uint8_t *)"id", 2, 0);
 }
 
 static void cell_name(size_t lacks)
 {
     usm_cell(film_of(TABLE, sizeof TABLE, 0), sizeof TABLE, 0,
-             lend_bytes(&second_read_only, ENDS, (const uint8_t *)"id", 2 - lacks), 2, 0, report_of(USM_CELL_WORDS, 0),
-             USM_CELL_WORDS);
+             lend_bytes(&second_read_only, ENDS, (const uint8_t *)"id", 2 - lacks), 2, 0);
 }
 
-static void cell_report(size_t lacks)
+/* Extracts the song; the film, the video output or the audio output is too long. */
+static void extract(size_t film, size_t video, size_t audio)
 {
-    usm_cell(film_of(TABLE, sizeof TABLE, 0), sizeof TABLE, 0, (const uint8_t *)"id", 2, 0,
-             report_of(USM_CELL_WORDS, lacks), USM_CELL_WORDS);
-}
-
-/* Extracts the song; the film, the video output, the audio output or the report is too long. */
-static void extract(size_t film, size_t video, size_t audio, size_t report)
-{
-    usm_extract(film_of(song.stored.bytes, song.stored.len, film), song.stored.len, 1, 1, 1, NULL, 0,
-                lacking(&written, song.video_len, video), song.video_len,
-                lacking(&second_written, song.audio_len, audio), song.audio_len, report_of(USM_FILM_WORDS, report),
-                USM_FILM_WORDS);
+    usm_extract(film_of(song.stored.bytes, song.stored.len, film), song.stored.len, USM_READ_WITH_AUDIO,
+                usm_with_key(1), NULL, 0, lacking(&written, song.video_len, video), song.video_len,
+                lacking(&second_written, song.audio_len, audio), song.audio_len);
 }
 
 static void extract_film(size_t lacks)
 {
-    extract(lacks, 0, 0, 0);
+    extract(lacks, 0, 0);
 }
 
 static void extract_video(size_t lacks)
 {
-    extract(0, lacks, 0, 0);
+    extract(0, lacks, 0);
 }
 
 static void extract_audio(size_t lacks)
 {
-    extract(0, 0, lacks, 0);
+    extract(0, 0, lacks);
 }
 
-static void extract_report(size_t lacks)
+/* Lists F without the bytes behind its last marker, whose last byte decides; the film or the list is too
+ * long. */
+static void list(size_t film, size_t records)
 {
-    extract(0, 0, 0, lacks);
+    size_t record = sizeof(struct usm_chunk);
+
+    usm_list(film_of(f, 429, film), 429, USM_READ_WITH_AUDIO,
+             (struct usm_chunk *)(void *)lacking(&written, 2 * record, records * record), 2);
 }
 
-/* F without the bytes behind its last marker: the marker's last byte decides. */
-static void chunks(size_t lacks)
+static void list_film(size_t lacks)
 {
-    usm_chunks(film_of(f, 429, lacks), 429, 1, 2, report_of(USM_LIST_WORDS, 0), USM_LIST_WORDS);
-}
-
-static void chunks_report(size_t lacks)
-{
-    usm_chunks(film_of(f, 429, 0), 429, 1, 2, report_of(USM_LIST_WORDS, lacks), USM_LIST_WORDS);
-}
-
-static void list(size_t lacks)
-{
-    usm_list(film_of(f, 429, lacks), 429, 1,
-             (struct usm_chunk *)(void *)lacking(&written, 2 * sizeof(struct usm_chunk), 0), 2);
+    list(lacks, 0);
 }
 
 static void list_records(size_t lacks)
 {
-    usm_list(film_of(f, 429, 0), 429, 1,
-             (struct usm_chunk *)(void *)lacking(&written, 2 * sizeof(struct usm_chunk), lacks * sizeof(struct usm_chunk)),
-             2);
+    list(0, lacks);
 }
 
 /* A slice that begins at the page, and a call that begins before it. */
@@ -170,17 +142,12 @@ static const struct {
     {"usm_unmask_audio, the payload", unmask_audio},
     {"usm_mask_audio, the payload", mask_audio},
     {"usm_table, the bytes", table},
-    {"usm_table, the report", table_report},
     {"usm_cell, the bytes", cell},
     {"usm_cell, the name", cell_name},
-    {"usm_cell, the report", cell_report},
     {"usm_extract, the container", extract_film},
     {"usm_extract, the video output", extract_video},
     {"usm_extract, the audio output", extract_audio},
-    {"usm_extract, the report", extract_report},
-    {"usm_chunks, the container", chunks},
-    {"usm_chunks, the report", chunks_report},
-    {"usm_list, the container", list},
+    {"usm_list, the container", list_film},
     {"usm_list, the list", list_records},
     {"usm_key_table, one byte before the buffer", before},
     {"usm_unmask_audio, a payload that is read-only", read_only_payload},
@@ -218,7 +185,6 @@ int show_catches(void)
     make_memory(&second_read_only, SONG_BYTES, 1);
     make_memory(&written, SONG_BYTES, 0);
     make_memory(&second_written, SONG_BYTES, 0);
-    make_memory(&report_memory, SONG_BYTES, 0);
     make_f(f);
     make_song(&song, 1);
     /* The song ends with the last payload, so that its last byte is wanted. */

@@ -60,7 +60,7 @@ static double seconds_now(void)
 /* Tries cases for some seconds. */
 static void run_pass(double seconds, uint64_t seed, enum edge edge)
 {
-    double began = seconds_now(), told = began, now = began;
+    double began = seconds_now(), printed = began, now = began;
     uint64_t number = 0;
     int i;
 
@@ -70,9 +70,9 @@ static void run_pass(double seconds, uint64_t seed, enum edge edge)
         for (i = 0; i < CASES_AT_A_TIME; i++)
             try_case(seed, number++, edge);
         now = seconds_now();
-        if (now - told < SECONDS_BETWEEN_LINES)
+        if (now - printed < SECONDS_BETWEEN_LINES)
             continue;
-        told = now;
+        printed = now;
         printf("  %.0f s, %" PRIu64 " cases\n", now - began, number);
     }
     alarm(0);

@@ -4,7 +4,7 @@
  *
  * Every film is made sparse, is lent read-only, and ends at a page that may not be touched, as do outputs
  * and lists. Every group of calls has a process of its own, every call a thread of its own with a painted
- * stack. The status is 1 where something is not as expected; the last line tells how many groups were
+ * stack. The status is 1 where something is not as expected; the last line says how many groups were
  * left out.
  */
 #define _GNU_SOURCE
@@ -105,47 +105,52 @@ struct call {
     const char *name;
     const uint8_t *film;
     size_t len;
-    uint8_t keyed;
+    struct usm_key key;
     uint8_t *video, *audio;
     size_t video_len, audio_len;
     struct usm_chunk *list;
     size_t room;
-    uint64_t report[USM_FILM_WORDS];
+    /* Its reply, as far as it has these. */
     uint8_t number;
+    size_t refused_at, video_size, audio_size, count;
     /* The bytes of stack that it took. */
     size_t used;
 };
 
 static void call_extract(struct call *c)
 {
-    c->number = usm_extract(c->film, c->len, 1, c->keyed, KEY, NULL, 0, c->video, c->video_len, c->audio, c->audio_len,
-                            c->report, USM_FILM_WORDS);
-}
+    struct usm_film_reply reply = usm_extract(c->film, c->len, USM_READ_WITH_AUDIO, c->key, NULL, 0, c->video,
+                                              c->video_len, c->audio, c->audio_len);
 
-static void call_chunks(struct call *c)
-{
-    c->number = usm_chunks(c->film, c->len, 1, c->room, c->report, USM_LIST_WORDS);
+    c->number = reply.number;
+    c->refused_at = reply.refused_at;
+    c->video_size = reply.video_size;
+    c->audio_size = reply.audio_size;
 }
 
 static void call_list(struct call *c)
 {
-    c->number = usm_list(c->film, c->len, 1, c->list, c->room);
+    struct usm_list_reply reply = usm_list(c->film, c->len, USM_READ_WITH_AUDIO, c->list, c->room);
+
+    c->number = reply.number;
+    c->refused_at = reply.refused_at;
+    c->count = reply.count;
 }
 
 /* The table of a film's first block, and the name that it has. */
 static void call_table(struct call *c)
 {
-    c->number = usm_table(c->film, c->len, 32, c->report, USM_TABLE_WORDS);
+    c->number = usm_table(c->film, c->len, 32).number;
 }
 
 static void call_cell(struct call *c)
 {
-    c->number = usm_cell(c->film, c->len, 32, (const uint8_t *)"filename", 8, 0, c->report, USM_CELL_WORDS);
+    c->number = usm_cell(c->film, c->len, 32, (const uint8_t *)"filename", 8, 0).number;
 }
 
 static void call_key_table(struct call *c)
 {
-    usm_key_table(KEY, c->video, c->video_len);
+    c->count = usm_key_table(KEY, c->video, c->video_len);
 }
 
 static void call_unmask_video(struct call *c)
@@ -255,7 +260,7 @@ static struct call call_on(const char *name, const uint8_t *film, size_t len)
     return c;
 }
 
-/* The song, for comparison, a small film with sound: all ten functions. */
+/* The song, for comparison, a small film with audio: all nine functions. */
 static void try_song(void)
 {
     static struct song song;
@@ -266,8 +271,8 @@ static void try_song(void)
         {"usm_key_table", call_key_table},   {"usm_unmask_video", call_unmask_video},
         {"usm_mask_video", call_mask_video}, {"usm_unmask_audio", call_unmask_audio},
         {"usm_mask_audio", call_mask_audio}, {"usm_table", call_table},
-        {"usm_cell", call_cell},             {"usm_chunks", call_chunks},
-        {"usm_list", call_list},             {"usm_extract", call_extract},
+        {"usm_cell", call_cell},             {"usm_list", call_list},
+        {"usm_extract", call_extract},
     };
     struct usm_chunk *list = lend_list(SONG_CHUNKS);
     uint8_t *film, *video, *audio;
@@ -282,7 +287,7 @@ static void try_song(void)
     for (i = 0; i < sizeof ACTS / sizeof ACTS[0]; i++) {
         struct call c = call_on(ACTS[i].name, film, song.stored.len);
 
-        c.keyed = 1;
+        c.key = usm_with_key(KEY);
         c.video = video;
         c.video_len = song.video_len;
         c.audio = audio;
@@ -291,6 +296,8 @@ static void try_song(void)
         c.room = SONG_CHUNKS;
         make_call(&c, ACTS[i].does);
         EXPECT(c.number == USM_ACCEPTED);
+        EXPECT(ACTS[i].does != call_key_table || c.count == USM_KEY_TABLE_BYTES);
+        EXPECT(ACTS[i].does != call_list || c.count == SONG_CHUNKS);
     }
     EXPECT(memcmp(video, song.video, song.video_len) == 0 && memcmp(audio, song.audio, song.audio_len) == 0);
 }
@@ -313,32 +320,26 @@ static uint8_t *make_zeros(size_t len, int ends)
 static void try_zeros(void)
 {
     uint8_t *film = make_zeros(LONGEST, 0);
-    struct call c = call_on("usm_chunks", film, LONGEST);
+    struct call c = call_on("usm_list, no list", film, LONGEST);
 
-    c.room = SIZE_MAX;
-    make_call(&c, call_chunks);
-    EXPECT(c.number == USM_RAN_OUT && c.report[USM_WORD_PLACE] == LONGEST - 40);
+    make_call(&c, call_list);
+    EXPECT(c.number == USM_RAN_OUT && c.refused_at == LONGEST - 40);
     c = call_on("usm_extract", film, LONGEST);
     make_call(&c, call_extract);
-    EXPECT(c.number == USM_RAN_OUT && c.report[USM_WORD_PLACE] == LONGEST - 40);
+    EXPECT(c.number == USM_RAN_OUT && c.refused_at == LONGEST - 40);
 }
 
 /* The chunks of an accepted film, measured. */
 static void try_measuring(void)
 {
     uint8_t *film = make_zeros(LONGEST, 1);
-    struct call c = call_on("usm_chunks", film, LONGEST);
+    struct call c = call_on("usm_list, no list", film, LONGEST);
 
-    c.room = SIZE_MAX;
-    make_call(&c, call_chunks);
-    EXPECT(c.number == USM_ACCEPTED && c.report[USM_WORD_COUNT] == COUNT);
-    c = call_on("usm_chunks, one record short", film, LONGEST);
-    c.room = COUNT - 1;
-    make_call(&c, call_chunks);
-    EXPECT(c.number == USM_SHORT_LIST && c.report[USM_WORD_FIRST] == COUNT);
+    make_call(&c, call_list);
+    EXPECT(c.number == USM_SHORT_LIST && c.count == COUNT);
     c = call_on("usm_extract", film, LONGEST);
     make_call(&c, call_extract);
-    EXPECT(c.number == USM_ACCEPTED && c.report[USM_WORD_VIDEO_SIZE] == 0);
+    EXPECT(c.number == USM_ACCEPTED && c.video_size == 0);
     printf("  %zu chunks\n", (size_t)COUNT);
 }
 
@@ -364,13 +365,13 @@ static void try_listing(void)
     c.list = list;
     c.room = COUNT - 1;
     make_call(&c, call_list);
-    EXPECT(c.number == USM_SHORT_LIST && is_zero(list, (COUNT + 1) * sizeof *list));
+    EXPECT(c.number == USM_SHORT_LIST && c.count == COUNT && is_zero(list, (COUNT + 1) * sizeof *list));
 
     c = call_on("usm_list, one record more", film, LONGEST);
     c.list = list;
     c.room = COUNT + 1;
     make_call(&c, call_list);
-    EXPECT(c.number == USM_ACCEPTED && is_zero(list + COUNT, sizeof *list));
+    EXPECT(c.number == USM_ACCEPTED && c.count == COUNT && is_zero(list + COUNT, sizeof *list));
     for (i = 0; i < COUNT; i++)
         EXPECT(list[i].start == CHUNKS_AT + APART * i && list[i].kind == USM_CHUNK_OTHER && list[i].data_type == 0 &&
                list[i].length == 0);
@@ -382,19 +383,15 @@ static void try_too_long(void)
 {
     uint8_t *film = make_zeros(LONGEST + 1, 1);
     struct usm_chunk *list = lend_list(2);
-    struct call c = call_on("usm_chunks", film, LONGEST + 1);
+    struct call c = call_on("usm_list", film, LONGEST + 1);
 
-    c.room = SIZE_MAX;
-    make_call(&c, call_chunks);
-    EXPECT(c.number == USM_TOO_LONG && c.report[USM_WORD_PLACE] == 0);
-    c = call_on("usm_list", film, LONGEST + 1);
     c.list = list;
     c.room = 2;
     make_call(&c, call_list);
-    EXPECT(c.number == USM_TOO_LONG && is_zero(list, 2 * sizeof *list));
+    EXPECT(c.number == USM_TOO_LONG && c.refused_at == 0 && is_zero(list, 2 * sizeof *list));
     c = call_on("usm_extract", film, LONGEST + 1);
     make_call(&c, call_extract);
-    EXPECT(c.number == USM_TOO_LONG && c.report[USM_WORD_PLACE] == 0);
+    EXPECT(c.number == USM_TOO_LONG && c.refused_at == 0);
 }
 
 /* One video payload of all that F's header leaves, extracted without a key and with one. */
@@ -416,7 +413,7 @@ static void try_one_payload(void)
 
     c = call_on("usm_extract, no output", film, LONGEST);
     make_call(&c, call_extract);
-    EXPECT(c.number == USM_SHORT_OUTPUT && c.report[USM_WORD_FIRST] == len && c.report[USM_WORD_SECOND] == 0);
+    EXPECT(c.number == USM_SHORT_OUTPUT && c.video_size == len && c.audio_size == 0);
     c = call_on("usm_extract, one byte short", film, LONGEST);
     c.video = video + 1;
     c.video_len = len - 1;
@@ -426,12 +423,12 @@ static void try_one_payload(void)
     c.video = video;
     c.video_len = len;
     make_call(&c, call_extract);
-    EXPECT(c.number == USM_ACCEPTED && c.report[USM_WORD_VIDEO_SIZE] == len);
+    EXPECT(c.number == USM_ACCEPTED && c.video_size == len);
     EXPECT(memcmp(video, payload, len) == 0);
     c = call_on("usm_extract, a key", film, LONGEST);
     c.video = video;
     c.video_len = len;
-    c.keyed = 1;
+    c.key = usm_with_key(KEY);
     make_call(&c, call_extract);
     EXPECT(c.number == USM_ACCEPTED && memcmp(video, payload, len) != 0);
     usm_mask_video(KEY, video, len);
@@ -485,7 +482,7 @@ int main(void)
         perror("mmap");
         return 2;
     }
-    run("a small film with sound, 3296 bytes", try_song, SMALL);
+    run("a small film with audio, 3296 bytes", try_song, SMALL);
     run("F's header and zeros, 1073741824 bytes", try_zeros, SMALL);
     run("F's header and zeros, the last chunk ends with the film, 1073741824 bytes: measured", try_measuring, SMALL);
     run("the same: listed", try_listing, (COUNT + 1) * sizeof(struct usm_chunk) + SMALL);
