@@ -1,4 +1,4 @@
--- Each answer of an extraction, with both outputs after it, from the survey and the tests; and back: what a film's answer tells. Assumes nothing.
+-- Each answer of an extraction, with both outputs after it, from the survey and the tests; and back: what a film's answer says. Assumes nothing.
 use Prim.Native.Nat.{ℕ, _+_, _≤_}
 use mathlib.Core.Path.{_≡_, refl, sym, ap, _∙_}
 use mathlib.Core.List.{List}
@@ -11,7 +11,7 @@ use borrow.Author.Tests.{ltb-false}
 use Rattle.refusal.specs.declared.Refusal.{Refusal}
 use Rattle.refusal.specs.declared.Cause.the-variants.{Oversized, ShortOutput}
 use Rattle.reading.specs.declared.Reading.{Reading}
-use Rattle.reading.specs.Choices.{appliedTo}
+use Rattle.reading.specs.declared.Applied.{Applied}
 use Rattle.chunk.specs.declared.Chunk.{Chunk}
 use Rattle.walk.specs.Walks.{walkFrom, videoSize, audioSize}
 use Rattle.unmasking.specs.declared.Key.{Key}
@@ -43,30 +43,30 @@ both-passed true t first second held contents e = let z : _≡_ {A = ℕ} 0 1 = 
 both-passed false true first second held contents e = let z : _≡_ {A = ℕ} 0 1 = cc in absurd (omega arith)
 both-passed false false first second held contents e = (refl, cc)
 
--- the sizes of a film that was surveyed are those of the chunks from where its header says
-module _ (container : List ℕ) (reading : Reading) (header : Header) (count seen heard : ℕ) (e : surveyOf (filmOf container reading) ≡ survey.Film header count seen heard) where
+-- the sizes of a film that was surveyed are those of the chunks from where its header says, read as the survey says
+module _ (container : List ℕ) (reading : Reading) (header : Header) (applied : Applied) (count seen heard : ℕ)
+    (e : surveyOf (filmOf container reading) ≡ survey.Film header applied count seen heard) where
   abbrev chunks : List Chunk
-  chunks = walkFrom container (appliedTo (header .audio) reading) (header .start) .chunks
+  chunks = walkFrom container applied (header .start) .chunks
 
-  pub its-film : filmOf container reading ≡ film header chunks
-  its-film = surveyed-film container reading header count seen heard e
+  pub its-film : filmOf container reading ≡ film header applied chunks
+  its-film = surveyed-film container reading header applied count seen heard e
 
   pub its-sizes : (videoSize chunks ≡ seen) × (audioSize chunks ≡ heard)
-  its-sizes = let f : surveyOf (film header chunks) ≡ survey.Film header count seen heard = sym (ap surveyOf its-film) ∙ e in (cc, cc)
+  its-sizes = let f : surveyOf (film header applied chunks) ≡ survey.Film header applied count seen heard = sym (ap surveyOf its-film) ∙ e in (cc, cc)
 
   -- where neither output is short, both streams have room
-  pub both-fit : (videoRoom audioRoom : ℕ) → (ltb videoRoom seen || ltb audioRoom heard) ≡ false → (applied : Reading) → applied ≡ appliedTo (header .audio) reading
-      → (videoSize (walkFrom container applied (header .start) .chunks) ≤ videoRoom) × (audioSize (walkFrom container applied (header .start) .chunks) ≤ audioRoom)
-  both-fit videoRoom audioRoom room applied a =
+  pub both-fit : (videoRoom audioRoom : ℕ) → (ltb videoRoom seen || ltb audioRoom heard) ≡ false → (videoSize chunks ≤ videoRoom) × (audioSize chunks ≤ audioRoom)
+  both-fit videoRoom audioRoom room =
       let l = both-long videoRoom seen audioRoom heard room in
-      rw a (omega (arith, its-sizes .0, l .0), omega (arith, its-sizes .1, l .1))
+      (omega (arith, its-sizes .0, l .0), omega (arith, its-sizes .1, l .1))
 
 module _ (container : List ℕ) (reading : Reading) (key : Key) (video audio : List ℕ) where
   pub not-surveyed : (refusal : Refusal) → surveyOf (filmOf container reading) ≡ survey.Refused refusal
       → Extraction container reading key video audio (extracted.Refused refusal) video audio
   not-surveyed refusal e = (rw e, refl, refl)
 
-  module _ (header : Header) (count seen heard : ℕ) (e : surveyOf (filmOf container reading) ≡ survey.Film header count seen heard) where
+  module _ (header : Header) (applied : Applied) (count seen heard : ℕ) (e : surveyOf (filmOf container reading) ≡ survey.Film header applied count seen heard) where
     pub oversized : ltb (length container) (seen + heard) ≡ true → (r : Extracted) → r ≡ refusedBy Oversized
         → Extraction container reading key video audio r video audio
     oversized t r q = rw q (rw (e, t), refl, refl)
@@ -76,11 +76,11 @@ module _ (container : List ℕ) (reading : Reading) (key : Key) (video audio : L
           → Extraction container reading key video audio r video audio
       short-output t r q = rw q (rw (e, fits, t), refl, refl)
 
-      pub extracted-film : (ltb (length video) seen || ltb (length audio) heard) ≡ false → (applied : Reading) → applied ≡ appliedTo (header .audio) reading
+      pub extracted-film : (ltb (length video) seen || ltb (length audio) heard) ≡ false
           → (unmasking : Unmasking) → unmasking ≡ unmaskingOf key (header .«audio_codec») → (contents : Contents) → contents ≡ contentsOf header seen heard
           → (video′ audio′ : List ℕ) → video′ ≡ sets video 0 (videoStream container unmasking (walkFrom container applied (header .start) .chunks))
           → audio′ ≡ sets audio 0 (audioStream container unmasking (walkFrom container applied (header .start) .chunks))
           → Extraction container reading key video audio (extracted.Film contents) video′ audio′
-      extracted-film room applied a unmasking u contents q video′ audio′ v w =
-          let f = its-film container reading header count seen heard e in
-          (rw (e, fits, room, q), rw (f, v, a, u), rw (f, w, a, u))
+      extracted-film room unmasking u contents q video′ audio′ v a =
+          let f = its-film container reading header applied count seen heard e in
+          (rw (e, fits, room, q), rw (f, v, u), rw (f, a, u))

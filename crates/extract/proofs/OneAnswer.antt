@@ -1,4 +1,4 @@
--- No second answer meets the contract of this crate's function: what a caller learns makes two results, and with them both outputs at exit, one.
+-- No second answer meets the contract of this crate's function: what a caller learns makes two results, and with them both outputs at exit, equal.
 -- Assumes nothing.
 use mathlib.Core.Path.{_≡_, sym}
 use Rattle.laws.proofs.OneAnswer.{no-second-answer}

@@ -11,7 +11,6 @@ use lib.Dec.{leb, eqb}
 use borrow.Author.Tests.{leb-true, leb-false}
 use Rattle.laws.specs.Lists.{at}
 use Rattle.laws.proofs.OneAnswer.{no-second-answer}
-use Rattle.reading.specs.Choices.{appliedTo}
 use Rattle.codec.specs.declared.Codec.{Codec}
 use Rattle.key.specs.KeyTable.{keysOf}
 use Rattle.key.specs.CountingBits.{AgreeWhereItCounts}
@@ -44,25 +43,24 @@ pub RefusalsLeaveBothOutputs : promised.RefusalsLeaveBothOutputs
 RefusalsLeaveBothOutputs container reading key video audio videoAfter audioAfter refusal e = (e .1, e .2)
 
 pub SizesAreTheStreams : promised.SizesAreTheStreams
-SizesAreTheStreams container reading key header count video audio e =
+SizesAreTheStreams container reading key header applied count video audio e =
     let by = unmaskingOf key (header .«audio_codec») in
-    let applied = appliedTo (header .audio) reading in
-    let sizes = its-sizes container reading header count video audio e in
-    rw (its-film container reading header count video audio e)
+    let sizes = its-sizes container reading header applied count video audio e in
+    rw (its-film container reading header applied count video audio e)
     (stream-length (videoUnder by) container applied (header .start) ∙ sizes .0, stream-length (audioUnder by) container applied (header .start) ∙ sizes .1)
 
 pub SizesFitTheContainer : promised.SizesFitTheContainer
-SizesFitTheContainer container reading header count video audio e =
-    let sizes = its-sizes container reading header count video audio e in
-    omega (arith, sizes .0, sizes .1, SizesFitWhatIsLeft container (appliedTo (header .audio) reading) (header .start))
+SizesFitTheContainer container reading header applied count video audio e =
+    let sizes = its-sizes container reading header applied count video audio e in
+    omega (arith, sizes .0, sizes .1, SizesFitWhatIsLeft container applied (header .start))
 
 pub BytesPastTheStreamsStay : promised.BytesPastTheStreamsStay
 BytesPastTheStreamsStay container reading key video audio videoAfter audioAfter contents e = by-film (filmOf container reading) refl
   where
     by-film : (f : Film) → filmOf container reading ≡ f → SameFrom (contents .«video_size») video videoAfter × SameFrom (contents .«audio_size») audio audioAfter
-    by-film (film header chunks) f =
+    by-film (film header applied chunks) f =
         let by = unmaskingOf key (header .«audio_codec») in
-        let hold = both-hold container reading header chunks f key video audio videoAfter audioAfter contents e in (
+        let hold = both-hold container reading header applied chunks f key video audio videoAfter audioAfter contents e in (
           stays-past (videoUnder by) container (contents .«video_size») video videoAfter chunks (hold .0),
           stays-past (audioUnder by) container (contents .«audio_size») audio audioAfter chunks (hold .1),
         )
@@ -78,7 +76,7 @@ module _ (key key′ : ℕ) (a : AgreeWhereItCounts key key′) where
   same-unmasking codec = rw (same-keys key key′ a)
 
   one-film : (container : List ℕ) (f : Film) → (videoOf container (Given key) f ≡ videoOf container (Given key′) f) × (audioOf container (Given key) f ≡ audioOf container (Given key′) f)
-  one-film container (film header chunks) = (
+  one-film container (film header applied chunks) = (
     ap (λ (by : Unmasking). videoStream container by chunks) (same-unmasking (header .«audio_codec»)),
     ap (λ (by : Unmasking). audioStream container by chunks) (same-unmasking (header .«audio_codec»)),
   )
@@ -114,14 +112,14 @@ module _ (key key′ : ℕ) (payload : List ℕ) (p : ℕ) (h : p < length paylo
   audio-by false = xor-self (at payload p)
 
 pub VideoDiffersPayloadByPayload : promised.VideoDiffersPayloadByPayload
-VideoDiffersPayloadByPayload container reading key key′ video audio videoAfter audioAfter videoAfter′ audioAfter′ contents contents′ header before after chunk p e e′ f h =
+VideoDiffersPayloadByPayload container reading key key′ video audio videoAfter audioAfter videoAfter′ audioAfter′ contents contents′ header applied before after chunk p e e′ f h =
     let payload = videoPart (chunk .kind) (payloadOf container chunk) in
-    ap₂ bitXor (video-at container reading header before after chunk f (Given key) video audio videoAfter audioAfter contents e p h)
-    (video-at container reading header before after chunk f (Given key′) video audio videoAfter′ audioAfter′ contents′ e′ p h)
+    ap₂ bitXor (video-at container reading header applied before after chunk f (Given key) video audio videoAfter audioAfter contents e p h)
+    (video-at container reading header applied before after chunk f (Given key′) video audio videoAfter′ audioAfter′ contents′ e′ p h)
     ∙ video-by key key′ payload p h (eqb (chunk .«data_type») 0) (leb 0x240 (length payload)) refl
 
 pub AudioDiffersPayloadByPayload : promised.AudioDiffersPayloadByPayload
-AudioDiffersPayloadByPayload container reading key key′ video audio videoAfter audioAfter videoAfter′ audioAfter′ contents contents′ header before after chunk p e e′ f h =
-    ap₂ bitXor (audio-at container reading header before after chunk f (Given key) video audio videoAfter audioAfter contents e p h)
-    (audio-at container reading header before after chunk f (Given key′) video audio videoAfter′ audioAfter′ contents′ e′ p h)
+AudioDiffersPayloadByPayload container reading key key′ video audio videoAfter audioAfter videoAfter′ audioAfter′ contents contents′ header applied before after chunk p e e′ f h =
+    ap₂ bitXor (audio-at container reading header applied before after chunk f (Given key) video audio videoAfter audioAfter contents e p h)
+    (audio-at container reading header applied before after chunk f (Given key′) video audio videoAfter′ audioAfter′ contents′ e′ p h)
     ∙ audio-by key key′ (audioPart (chunk .kind) (payloadOf container chunk)) p h (isAdx (header .«audio_codec») && eqb (chunk .«data_type») 0)

@@ -1,4 +1,4 @@
--- What a result that is a film tells of both outputs at exit: each has its stream at the front, each payload's piece at its place there, and is as it was
+-- What a result that is a film says of both outputs at exit: each has its stream at the front, each payload's piece at its place there, and is as it was
 -- past it. Assumes nothing.
 use Prim.Native.Nat.{ℕ, _+_, _-_, _≤_, _<_}
 use mathlib.Core.Path.{_≡_, refl, sym, ap, _∙_}
@@ -12,10 +12,10 @@ use Rattle.laws.specs.Lists.{at}
 use Rattle.laws.proofs.SpliceLaws.{at-left, at-right}
 use Rattle.refusal.specs.declared.Cause.the-variants.{Oversized, ShortOutput}
 use Rattle.reading.specs.declared.Reading.{Reading}
-use Rattle.reading.specs.Choices.{appliedTo}
+use Rattle.reading.specs.declared.Applied.{Applied}
 use Rattle.chunk.specs.declared.Chunk.{Chunk}
 use Rattle.chunk.specs.Chunks.{payloadOf}
-use Rattle.walk.specs.Walks.{walkFrom, sizeOf, videoSize, audioSize}
+use Rattle.walk.specs.Walks.{walkFrom, joined, sizeOf, videoSize, audioSize}
 use Rattle.unmasking.specs.declared.Key.{Key}
 use Rattle.unmasking.specs.declared.Unmasking.{Unmasking}
 use Rattle.unmasking.specs.Unmasking.{unmaskingOf}
@@ -23,7 +23,7 @@ use Rattle.header.specs.declared.Header.{Header}
 use Rattle.film.specs.Films.{film, filmOf, surveyOf}
 use Rattle.extract.specs.declared.Contents.{Contents}
 use Rattle.extract.specs.declared.Extracted.the-variants as extracted
-use Rattle.extract.specs.Streams.{videoPart, audioPart, videoPiece, audioPiece, joined}
+use Rattle.extract.specs.Streams.{videoPart, audioPart, videoPiece, audioPiece}
 use Rattle.extract.specs.Extraction.{contentsOf, Extraction}
 use Rattle.extract.specs.Promises.{SameFrom}
 use Rattle.extract.proofs.StreamLaws.{Stream, pieceOf, videoUnder, audioUnder, joined-append, front-length, stream-length}
@@ -51,7 +51,7 @@ module _ (stream : Stream) (container : List ℕ) (size : ℕ) (out out′ : Lis
       )
 
   -- a payload's piece stands where the payloads before it end
-  pub piece-at : (reading : Reading) (c : ℕ) (before after : List Chunk) (chunk : Chunk) → walkFrom container reading c .chunks ≡ before ++ chunk ∷ after
+  pub piece-at : (reading : Applied) (c : ℕ) (before after : List Chunk) (chunk : Chunk) → walkFrom container reading c .chunks ≡ before ++ chunk ∷ after
       → Holds stream container (before ++ chunk ∷ after) size out out′ → (p : ℕ) → p < length (stream .part (chunk .kind) (payloadOf container chunk))
       → at out′ (sizeOf (stream .share) before + p) ≡ at (pieceOf stream container chunk) p
   unfolding joined
@@ -72,16 +72,17 @@ module _ (stream : Stream) (container : List ℕ) (size : ℕ) (out out′ : Lis
       ∙ at-right first (piece ++ rest) share (share + p) n (omega arith) ∙ ap (at (piece ++ rest)) q
       ∙ List·getD-append piece rest 0 p (omega arith)
 
-module _ (container : List ℕ) (reading : Reading) (header : Header) (chunks : List Chunk) (f : filmOf container reading ≡ film header chunks) where
+module _ (container : List ℕ) (reading : Reading) (header : Header) (applied : Applied) (chunks : List Chunk)
+    (f : filmOf container reading ≡ film header applied chunks) where
   -- the chunks of a film are those of the walk from where its header says
-  its-walk : walkFrom container (appliedTo (header .audio) reading) (header .start) .chunks ≡ chunks
+  its-walk : walkFrom container applied (header .start) .chunks ≡ chunks
   its-walk =
-      let s : film header chunks ≡ film header (walkFrom container (appliedTo (header .audio) reading) (header .start) .chunks) =
-      sym f ∙ its-film container reading header (length chunks) (videoSize chunks) (audioSize chunks) (ap surveyOf f) in
+      let s : film header applied chunks ≡ film header applied (walkFrom container applied (header .start) .chunks) =
+      sym f ∙ its-film container reading header applied (length chunks) (videoSize chunks) (audioSize chunks) (ap surveyOf f) in
       cc
 
   its-length : (stream : Stream) → length (joined (pieceOf stream container) chunks) ≡ sizeOf (stream .share) chunks
-  its-length stream = rw its-walk at (stream-length stream container (appliedTo (header .audio) reading) (header .start))
+  its-length stream = rw its-walk at (stream-length stream container applied (header .start))
 
   pub both-hold : (key : Key) (video audio videoAfter audioAfter : List ℕ) (contents : Contents)
       → Extraction container reading key video audio (extracted.Film contents) videoAfter audioAfter
@@ -101,23 +102,21 @@ module _ (container : List ℕ) (reading : Reading) (header : Header) (chunks : 
       )
 
 -- both outputs in a payload: what its chunk gives
-module _ (container : List ℕ) (reading : Reading) (header : Header) (before after : List Chunk) (chunk : Chunk) (f : filmOf container reading ≡ film header (before ++ chunk ∷ after))
+module _ (container : List ℕ) (reading : Reading) (header : Header) (applied : Applied) (before after : List Chunk) (chunk : Chunk)
+    (f : filmOf container reading ≡ film header applied (before ++ chunk ∷ after))
     (key : Key) (video audio videoAfter audioAfter : List ℕ) (contents : Contents) (e : Extraction container reading key video audio (extracted.Film contents) videoAfter audioAfter)
     (p : ℕ) where
   abbrev by : Unmasking
   by = unmaskingOf key (header .«audio_codec»)
 
-  abbrev applied : Reading
-  applied = appliedTo (header .audio) reading
-
   pub video-at : p < length (videoPart (chunk .kind) (payloadOf container chunk)) → at videoAfter (videoSize before + p) ≡ at (videoPiece container by chunk) p
   video-at =
       piece-at (videoUnder by) container (contents .«video_size») video videoAfter applied (header .start) before after chunk
-      (its-walk container reading header (before ++ chunk ∷ after) f)
-      (both-hold container reading header (before ++ chunk ∷ after) f key video audio videoAfter audioAfter contents e .0) p
+      (its-walk container reading header applied (before ++ chunk ∷ after) f)
+      (both-hold container reading header applied (before ++ chunk ∷ after) f key video audio videoAfter audioAfter contents e .0) p
 
   pub audio-at : p < length (audioPart (chunk .kind) (payloadOf container chunk)) → at audioAfter (audioSize before + p) ≡ at (audioPiece container by chunk) p
   audio-at =
       piece-at (audioUnder by) container (contents .«audio_size») audio audioAfter applied (header .start) before after chunk
-      (its-walk container reading header (before ++ chunk ∷ after) f)
-      (both-hold container reading header (before ++ chunk ∷ after) f key video audio videoAfter audioAfter contents e .1) p
+      (its-walk container reading header applied (before ++ chunk ∷ after) f)
+      (both-hold container reading header applied (before ++ chunk ∷ after) f key video audio videoAfter audioAfter contents e .1) p

@@ -1,14 +1,12 @@
 -- A stream takes a part of each payload, by the chunk's kind, and makes it clear at its own length. The payload of a chunk that was found is in the
 -- container, so a stream is as long as its size says. Assumes nothing.
-use Prim.Native.Nat.{ℕ, _+_, _≤_}
-use mathlib.Core.Path.{_≡_, refl, sym, ap₂, _∙_}
+use Prim.Native.Nat.{ℕ, _+_}
+use mathlib.Core.Path.{_≡_, refl, sym, ap, ap₂, _∙_}
 use mathlib.Core.List.{List, [], _∷_, _++_, append-nil, append-assoc}
 use mathlib.Core.Bool.{Bool, true, false, cond}
 use native.Mathlib.Omega.{arith}
-use lib.ListN.{length, drop, length-append, length-drop}
-use lib.Seq.{length-take-le}
-use borrow.Author.Tests.{le-leb}
-use Rattle.reading.specs.declared.Reading.{Reading}
+use lib.ListN.{length, length-append}
+use Rattle.reading.specs.declared.Applied.{Applied}
 use Rattle.mask.specs.Video.{unmaskedVideo}
 use Rattle.mask.specs.Audio.{maskedAudio}
 use Rattle.mask.proofs.UndoLaws.{video-length, audio-length}
@@ -17,12 +15,12 @@ use Rattle.chunk.specs.declared.Kind.the-variants.{Video, Audio, Other, End}
 use Rattle.chunk.specs.declared.Chunk.{Chunk}
 use Rattle.chunk.specs.declared.ChunkStep.the-variants.{Found}
 use Rattle.chunk.specs.Chunks.{chunkAt, payloadOf}
-use Rattle.chunk.proofs.FoundLaws.{found}
-use Rattle.walk.specs.Walks.{walkFrom, videoIn, audioIn, sizeOf}
+use Rattle.chunk.proofs.Promises.{PayloadsLieWithin}
+use Rattle.walk.specs.Walks.{walkFrom, joined, videoIn, audioIn, sizeOf}
 use Rattle.walk.proofs.WalkLaws.{every-walk}
 use Rattle.unmasking.specs.declared.Unmasking.{Unmasking}
 use Rattle.unmasking.specs.Unmasking.{isMasked, clearVideo, clearAudio}
-use Rattle.extract.specs.Streams.{videoPart, audioPart, joined}
+use Rattle.extract.specs.Streams.{videoPart, audioPart}
 
 -- its part of a payload and that part's share of the length, and how it makes a part clear, by the data type
 pub record Stream : Type 0 where
@@ -37,7 +35,7 @@ abbrev pub pieceOf : Stream → List ℕ → Chunk → List ℕ
 pieceOf stream container chunk = stream .clear (chunk .«data_type») (stream .part (chunk .kind) (payloadOf container chunk))
 
 -- the stream from a place of the container on
-abbrev pub streamFrom : Stream → List ℕ → Reading → ℕ → List ℕ
+abbrev pub streamFrom : Stream → List ℕ → Applied → ℕ → List ℕ
 streamFrom stream container reading c = joined (pieceOf stream container) (walkFrom container reading c .chunks)
 
 -- ---- video and audio
@@ -74,18 +72,11 @@ audioUnder by = record { part = audioPart; share = audioIn; clear = clearAudio b
 
 -- ---- how long a stream is
 
-module _ (container : List ℕ) (reading : Reading) (c : ℕ) (chunk : Chunk) (e : chunkAt container reading c ≡ Found chunk) where
-  payload-length : length (payloadOf container chunk) ≡ chunk .len
-  payload-length =
-      let w = found container reading c chunk e in
-      let h : chunk .start + 0x20 + chunk .len ≤ length container = omega arith in
-      rw (le-leb (chunk .start + 0x20 + chunk .len) (length container) h)
-      (length-take-le (chunk .len) (drop (chunk .start + 0x20) container) (rw length-drop (omega arith)))
-
+module _ (container : List ℕ) (reading : Applied) (c : ℕ) (chunk : Chunk) (e : chunkAt container reading c ≡ Found chunk) where
   piece-length : (stream : Stream) → length (pieceOf stream container chunk) ≡ stream .share (chunk .kind) (chunk .len)
   piece-length stream =
       stream .keeps (chunk .«data_type») (stream .part (chunk .kind) (payloadOf container chunk))
-      ∙ stream .parted (chunk .kind) (payloadOf container chunk) ∙ rw payload-length
+      ∙ stream .parted (chunk .kind) (payloadOf container chunk) ∙ ap (stream .share (chunk .kind)) (PayloadsLieWithin container reading c chunk e .1)
 
 -- the pieces of two lists of chunks
 pub joined-append : (piece : Chunk → List ℕ) (before after : List Chunk) → joined piece (before ++ after) ≡ joined piece before ++ joined piece after
@@ -93,8 +84,8 @@ unfolding joined
 joined-append piece [] after = refl
 joined-append piece (chunk ∷ before) after = rw (joined-append piece before after, append-assoc)
 
-module _ (stream : Stream) (container : List ℕ) (reading : Reading) where
-  -- told of the first chunks of a walk, as many as one likes
+module _ (stream : Stream) (container : List ℕ) (reading : Applied) where
+  -- stated of the first chunks of a walk, as many as one likes
   abbrev Sized : ℕ → List Chunk → Type 0
   Sized c chunks = (before after : List Chunk) → chunks ≡ before ++ after → length (joined (pieceOf stream container) before) ≡ sizeOf (stream .share) before
 

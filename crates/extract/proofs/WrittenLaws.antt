@@ -1,63 +1,58 @@
--- A stream while it is written: what was written, with the pieces of the chunks from here on, is what the whole stream leaves. Assumes nothing.
+-- A stream while it is written: what was written, with the pieces of the chunks from here on, is what the whole stream leaves, by the law of `walk` for
+-- pieces that are put into an output. A piece is as long as its part of the payload, so it has room where the stream has. Assumes nothing.
 use Prim.Native.Nat.{ℕ, _+_, _≤_}
-use mathlib.Core.Path.{_≡_, refl, sym, ap, _∙_}
-use mathlib.Core.List.{List, _++_}
+use mathlib.Core.Path.{_≡_, sym, ap, _∙_}
+use mathlib.Core.List.{List}
 use native.Mathlib.Omega.{arith}
-use lib.ListN.{length, length-append}
-use lib.Seq.{sets, length-sets}
+use lib.ListN.{length}
+use lib.Seq.{sets}
 use Rattle.refusal.specs.declared.Refusal.{Refusal}
-use Rattle.reading.specs.declared.Reading.{Reading}
+use Rattle.reading.specs.declared.Applied.{Applied}
 use Rattle.chunk.specs.declared.Chunk.{Chunk}
 use Rattle.chunk.specs.declared.ChunkStep.the-variants.{Over, Found, Refused}
 use Rattle.chunk.specs.Chunks.{chunkAt, payloadOf}
 use Rattle.walk.specs.Walks.{walkFrom, sizeOf}
-use Rattle.walk.proofs.WalkLaws.{walk-over, walk-found, walk-refused}
-use Rattle.extract.specs.Streams.{joined}
-use Rattle.laws.proofs.SetsLaws.{sets-append}
-use Rattle.extract.proofs.StreamLaws.{Stream, streamFrom, stream-length}
+use Rattle.walk.proofs.PutLaws.{Output, Putting, put-starts, put-length, put-over, put-refused, put-fits, put-found}
+use Rattle.extract.proofs.StreamLaws.{Stream, pieceOf, streamFrom, stream-length}
 
--- so many bytes are written, of the chunks from start up to c
-pub record Written (stream : Stream) (container : List ℕ) (reading : Reading) (start c written : ℕ) (out₀ out : List ℕ) : Type 0 where
-  pub sized : written + length (streamFrom stream container reading c) ≡ length (streamFrom stream container reading start)
-  pub long : length out ≡ length out₀
-  pub bytes : sets out written (streamFrom stream container reading c) ≡ sets out₀ 0 (streamFrom stream container reading start)
+-- so many bytes of a stream are written, those of the chunks from start up to c
+pub record Writing (stream : Stream) (container : List ℕ) (reading : Applied) (start : ℕ) (out₀ : List ℕ) (c written : ℕ) (out : List ℕ) : Type 0 where
+  pub putting : Putting (pieceOf stream container) container reading start out₀ c written out
 
-module _ (stream : Stream) (container : List ℕ) (reading : Reading) (start : ℕ) (out₀ : List ℕ) where
-  pub none-written : Written stream container reading start start 0 out₀ out₀
-  none-written = record { sized = omega arith; long = refl; bytes = refl }
+module _ (stream : Stream) (container : List ℕ) (reading : Applied) (start : ℕ) (out₀ : List ℕ) where
+  pub none-written : Writing stream container reading start out₀ start 0 out₀
+  none-written = record { putting = put-starts (pieceOf stream container) container reading start out₀ }
 
-  module _ (c written : ℕ) (out : List ℕ) (w : Written stream container reading start c written out₀ out) where
+  module _ (c written : ℕ) (out : List ℕ) (w : Writing stream container reading start out₀ c written out) where
+    pub as-long : length out ≡ length out₀
+    as-long = put-length (pieceOf stream container) container reading start out₀ c written out (w .putting)
+
     pub all-written : chunkAt container reading c ≡ Over → out ≡ sets out₀ 0 (streamFrom stream container reading start)
-    unfolding joined
-    all-written e = rw (walk-over container reading c e) at (w .bytes)
+    all-written e = ap (λ (o : Output ℕ). o .holds) (put-over (pieceOf stream container) container reading start out₀ c written out (w .putting) e)
 
     pub all-before-refusal : (refusal : Refusal) → chunkAt container reading c ≡ Refused refusal → out ≡ sets out₀ 0 (streamFrom stream container reading start)
-    unfolding joined
-    all-before-refusal refusal e = rw (walk-refused container reading c refusal e) at (w .bytes)
+    all-before-refusal refusal e =
+        ap (λ (o : Output ℕ). o .holds) (put-refused (pieceOf stream container) container reading start out₀ c written out (w .putting) refusal e)
 
     -- a chunk's payload, and the part of it that is the stream's
     module _ (chunk : Chunk) (e : chunkAt container reading c ≡ Found chunk) (payload part : List ℕ) (is-payload : payload ≡ payloadOf container chunk)
         (is-part : part ≡ stream .part (chunk .kind) payload) where
-      -- the part, made clear, and then the rest
-      rest : streamFrom stream container reading c ≡ stream .clear (chunk .«data_type») part ++ streamFrom stream container reading (chunk .next)
-      unfolding joined
-      rest = rw (walk-found container reading c chunk e, is-part, is-payload)
+      is-piece : stream .clear (chunk .«data_type») part ≡ pieceOf stream container chunk
+      is-piece = rw (is-part, is-payload)
 
-      long-rest : written + (length part + length (streamFrom stream container reading (chunk .next))) ≡ length (streamFrom stream container reading start)
-      long-rest = simp (rest, length-append, stream .keeps) at (w .sized)
+      long : length part ≡ length (pieceOf stream container chunk)
+      long = sym (stream .keeps (chunk .«data_type») part) ∙ ap length is-piece
 
       -- the part has room
       pub room-for : sizeOf (stream .share) (walkFrom container reading start .chunks) ≤ length out₀ → written + length part ≤ length out
-      room-for h = omega (arith, long-rest, w .long, stream-length stream container reading start)
+      room-for h =
+          omega (arith, long, as-long, put-fits (pieceOf stream container) container reading start out₀ c written out (w .putting) chunk e, stream-length stream container reading start)
 
       pub one-more-written : (out′ : List ℕ) → out′ ≡ sets out written (stream .clear (chunk .«data_type») part)
-          → Written stream container reading start (chunk .next) (written + length part) out₀ out′
+          → Writing stream container reading start out₀ (chunk .next) (written + length part) out′
       one-more-written out′ put =
-          let piece = stream .clear (chunk .«data_type») part in
-          let more = streamFrom stream container reading (chunk .next) in
-          let n : length piece ≡ length part = stream .keeps (chunk .«data_type») part in
           record {
-            sized = omega (arith, long-rest);
-            long = ap length put ∙ length-sets out written piece ∙ w .long;
-            bytes = rw (put, ← n) (sym (sets-append out piece more written) ∙ (rw rest at (w .bytes)));
+            putting =
+                put-found (pieceOf stream container) container reading start out₀ c written out (w .putting) chunk e (written + length part) out′
+                (ap (λ (n : ℕ). written + n) long) (put ∙ ap (sets out written) is-piece);
           }

@@ -32,7 +32,7 @@ refusedBy cause = extracted.Refused (record { cause = cause; place = 0 })
 
 -- 14, "both stream sizes together exceed the container's length"; then 12, "video or audio output too short", with "both sizes needed"
 abbrev pub extractedIn : ℕ → ℕ → ℕ → Surveyed → Extracted
-extractedIn container videoRoom audioRoom (survey.Film header count video audio) =
+extractedIn container videoRoom audioRoom (survey.Film header applied count video audio) =
     cond (ltb container (video + audio)) (refusedBy Oversized)
     (cond (ltb videoRoom video || ltb audioRoom audio) (refusedBy (ShortOutput video audio))
     (extracted.Film (contentsOf header video audio)))
@@ -44,11 +44,11 @@ extractedOf container reading video audio = extractedIn (length container) (leng
 
 -- both streams of a film under a key
 abbrev pub videoOf : List ℕ → Key → Film → List ℕ
-videoOf container key (film header chunks) = videoStream container (unmaskingOf key (header .«audio_codec»)) chunks
+videoOf container key (film header applied chunks) = videoStream container (unmaskingOf key (header .«audio_codec»)) chunks
 videoOf container key (refused refusal) = []
 
 abbrev pub audioOf : List ℕ → Key → Film → List ℕ
-audioOf container key (film header chunks) = audioStream container (unmaskingOf key (header .«audio_codec»)) chunks
+audioOf container key (film header applied chunks) = audioStream container (unmaskingOf key (header .«audio_codec»)) chunks
 audioOf container key (refused refusal) = []
 
 -- "Every refusal leaves both outputs .. unchanged"; "Bytes .. past a size .. stay unchanged."

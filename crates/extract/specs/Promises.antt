@@ -6,6 +6,7 @@ use mathlib.Core.Bool.{cond, _&&_}
 use lib.ListN.{length, drop}
 use lib.Dec.{leb, eqb}
 use Rattle.reading.specs.declared.Reading.{Reading}
+use Rattle.reading.specs.declared.Applied.{Applied}
 use Rattle.refusal.specs.declared.Refusal.{Refusal}
 use Rattle.key.specs.CountingBits.{AgreeWhereItCounts}
 use Rattle.mask.specs.Positions.{difference, videoDiffers, audioDiffers}
@@ -25,7 +26,7 @@ use Rattle.extract.specs.declared.Extracted.the-variants as extracted
 use Rattle.extract.specs.Streams.{videoPart, audioPart}
 use Rattle.extract.specs.Extraction.{videoOf, audioOf, Extraction}
 
--- "Over a container, no key and no lack of one changes a refusal, name, codec, size": two results that meet the contract on one container, into outputs of the same lengths, are one
+-- "Over a container, no key and no lack of one changes a refusal, name, codec, size": two results that meet the contract on one container, into outputs of the same lengths, are equal
 abbrev pub NoKeyChangesTheAnswer : Type 0
 NoKeyChangesTheAnswer =
     (container : List ℕ) (reading : Reading) (key key′ : Key) (video audio video′ audio′ : List ℕ) (r r′ : Extracted) (videoAfter audioAfter videoAfter′ audioAfter′ : List ℕ)
@@ -41,13 +42,16 @@ RefusalsLeaveBothOutputs =
 -- the sizes are those of the streams, under every key and under none
 abbrev pub SizesAreTheStreams : Type 0
 SizesAreTheStreams =
-    (container : List ℕ) (reading : Reading) (key : Key) (header : Header) (count video audio : ℕ) → surveyOf (filmOf container reading) ≡ survey.Film header count video audio
+    (container : List ℕ) (reading : Reading) (key : Key) (header : Header) (applied : Applied) (count video audio : ℕ)
+    → surveyOf (filmOf container reading) ≡ survey.Film header applied count video audio
     → (length (videoOf container key (filmOf container reading)) ≡ video) × (length (audioOf container key (filmOf container reading)) ≡ audio)
 
 -- "the two sizes together never exceed the container": 14 can't occur
 abbrev pub SizesFitTheContainer : Type 0
 SizesFitTheContainer =
-    (container : List ℕ) (reading : Reading) (header : Header) (count video audio : ℕ) → surveyOf (filmOf container reading) ≡ survey.Film header count video audio → video + audio ≤ length container
+    (container : List ℕ) (reading : Reading) (header : Header) (applied : Applied) (count video audio : ℕ)
+    → surveyOf (filmOf container reading) ≡ survey.Film header applied count video audio
+    → video + audio ≤ length container
 
 -- as many bytes, and from a place on the same
 abbrev pub SameFrom : ℕ → List ℕ → List ℕ → Type 0
@@ -60,8 +64,8 @@ BytesPastTheStreamsStay =
     → Extraction container reading key video audio (extracted.Film contents) videoAfter audioAfter
     → SameFrom (contents .«video_size») video videoAfter × SameFrom (contents .«audio_size») audio audioAfter
 
--- keys that agree in bits 0 to 35 and 40 to 55 give the same film: two results under them, on one container and into the same outputs, have one answer and
--- leave the same bytes
+-- keys that agree in bits 0 to 35 and 40 to 55 give the same film: two results under them, on one container and into the same outputs, have the same answer
+-- and leave the same bytes
 abbrev pub OneFilmWhereBitsAgree : Type 0
 OneFilmWhereBitsAgree =
     (container : List ℕ) (reading : Reading) (key key′ : ℕ) (video audio : List ℕ) (r r′ : Extracted) (videoAfter audioAfter videoAfter′ audioAfter′ : List ℕ)
@@ -75,20 +79,20 @@ OneFilmWhereBitsAgree =
 abbrev pub VideoDiffersPayloadByPayload : Type 0
 VideoDiffersPayloadByPayload =
     (container : List ℕ) (reading : Reading) (key key′ : ℕ) (video audio videoAfter audioAfter videoAfter′ audioAfter′ : List ℕ) (contents contents′ : Contents)
-    (header : Header) (before after : List Chunk) (chunk : Chunk) (p : ℕ)
+    (header : Header) (applied : Applied) (before after : List Chunk) (chunk : Chunk) (p : ℕ)
     → Extraction container reading (Given key) video audio (extracted.Film contents) videoAfter audioAfter
     → Extraction container reading (Given key′) video audio (extracted.Film contents′) videoAfter′ audioAfter′
-    → filmOf container reading ≡ film header (before ++ chunk ∷ after) → p < length (videoPart (chunk .kind) (payloadOf container chunk))
+    → filmOf container reading ≡ film header applied (before ++ chunk ∷ after) → p < length (videoPart (chunk .kind) (payloadOf container chunk))
     → apart videoAfter videoAfter′ (videoSize before + p)
     ≡ cond ((eqb (chunk .«data_type») 0 && leb 0x240 (length (videoPart (chunk .kind) (payloadOf container chunk)))) && videoDiffers p) (difference key key′ (p % 0x20)) 0
 
--- and so an audio payload of data type 0, of ADX sound
+-- and so an audio payload of data type 0, of ADX audio
 abbrev pub AudioDiffersPayloadByPayload : Type 0
 AudioDiffersPayloadByPayload =
     (container : List ℕ) (reading : Reading) (key key′ : ℕ) (video audio videoAfter audioAfter videoAfter′ audioAfter′ : List ℕ) (contents contents′ : Contents)
-    (header : Header) (before after : List Chunk) (chunk : Chunk) (p : ℕ)
+    (header : Header) (applied : Applied) (before after : List Chunk) (chunk : Chunk) (p : ℕ)
     → Extraction container reading (Given key) video audio (extracted.Film contents) videoAfter audioAfter
     → Extraction container reading (Given key′) video audio (extracted.Film contents′) videoAfter′ audioAfter′
-    → filmOf container reading ≡ film header (before ++ chunk ∷ after) → p < length (audioPart (chunk .kind) (payloadOf container chunk))
+    → filmOf container reading ≡ film header applied (before ++ chunk ∷ after) → p < length (audioPart (chunk .kind) (payloadOf container chunk))
     → apart audioAfter audioAfter′ (audioSize before + p)
     ≡ cond ((isAdx (header .«audio_codec») && eqb (chunk .«data_type») 0) && audioDiffers p) (difference key key′ (p % 0x20)) 0

@@ -1,10 +1,11 @@
 -- Document 01, "Chunks": "`@SFV` payloads go to video, `@SFA` to audio". A stream is what its payloads give, one after the other.
-use mathlib.Core.List.{List, [], _∷_, _++_}
+use mathlib.Core.List.{List, []}
 use Prim.Native.Nat.{ℕ}
 use Rattle.chunk.specs.declared.Chunk.{Chunk}
 use Rattle.chunk.specs.declared.Kind.{Kind}
 use Rattle.chunk.specs.declared.Kind.the-variants.{Video, Audio, Other, End}
 use Rattle.chunk.specs.Chunks.{payloadOf}
+use Rattle.walk.specs.Walks.{joined}
 use Rattle.unmasking.specs.declared.Unmasking.{Unmasking}
 use Rattle.unmasking.specs.Unmasking.{clearVideo, clearAudio}
 
@@ -27,11 +28,6 @@ videoPiece container by chunk = clearVideo by (chunk .«data_type») (videoPart 
 
 abbrev pub audioPiece : List ℕ → Unmasking → Chunk → List ℕ
 audioPiece container by chunk = clearAudio by (chunk .«data_type») (audioPart (chunk .kind) (payloadOf container chunk))
-
--- the pieces of all chunks, one after the other
-unfoldable pub joined : (Chunk → List ℕ) → List Chunk → List ℕ
-joined piece [] = []
-joined piece (chunk ∷ chunks) = piece chunk ++ joined piece chunks
 
 abbrev pub videoStream : List ℕ → Unmasking → List Chunk → List ℕ
 videoStream container by = joined (videoPiece container by)

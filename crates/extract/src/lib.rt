@@ -20,6 +20,7 @@ use codec::VideoKind;
 use film::Surveyed;
 use film_name::Name;
 use header::Header;
+use reading::Applied;
 use reading::Reading;
 use refusal::Cause;
 use refusal::Refusal;
@@ -93,7 +94,7 @@ fn put_audio(payload: &[u8], data_type: u8, unmasking: Unmasking, out: &mut [u8]
 fn write_streams(
     container: &[u8],
     start: usize,
-    reading: Reading,
+    reading: Applied,
     unmasking: Unmasking,
     video: &mut [u8],
     audio: &mut [u8],
@@ -116,12 +117,12 @@ fn write_streams(
             ChunkStep::Found(chunk) => {
                 let kind = chunk.kind;
                 let payload = chunk::payload_of(container, chunk);
-                let picture = video_part(kind, payload);
-                let sound = audio_part(kind, payload);
-                put_video(picture, chunk.data_type, unmasking, video, seen);
-                put_audio(sound, chunk.data_type, unmasking, audio, heard);
-                seen += picture.len();
-                heard += sound.len();
+                let for_video = video_part(kind, payload);
+                let for_audio = audio_part(kind, payload);
+                put_video(for_video, chunk.data_type, unmasking, video, seen);
+                put_audio(for_audio, chunk.data_type, unmasking, audio, heard);
+                seen += for_video.len();
+                heard += for_audio.len();
                 at = chunk.next;
             }
         }
@@ -187,6 +188,7 @@ pub fn extract(
     match film::survey(container, reading) {
         Surveyed::Film {
             header,
+            reading: applied,
             count: _,
             video: seen,
             audio: heard,
@@ -201,7 +203,6 @@ pub fn extract(
                 });
             }
             let codec = header.audio_codec;
-            let applied = reading::applied_to(header.audio, reading);
             let unmasking = unmasking::unmasking_of(key, codec);
             write_streams(container, header.start, applied, unmasking, video, audio);
             Extracted::Film(contents_of(header, seen, heard))

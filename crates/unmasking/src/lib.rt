@@ -18,7 +18,7 @@ pub struct Unmasking {
     pub keys: Keys,
 }
 
-// The codec of ADX sound, the only one that is masked.
+// The codec of ADX audio, the only one that is masked.
 const ADX: u32 = 2;
 
 // The data type of a masked payload.
@@ -34,7 +34,7 @@ pub fn key_by(given: u8, number: u64) -> Key
     Key::Given(number)
 }
 
-// Whether sound is ADX.
+// Whether audio is ADX.
 fn is_adx(codec: Codec) -> bool
     ensures { λ r. ⌜ r ≡ isAdx codec ⌝ }
 {

@@ -27,11 +27,11 @@ output end holds = record { end = end; holds = holds }
 
 module _ {A : Type 0} (piece : Chunk → List A) where
   -- with the piece of a chunk more
-  abbrev pub put : Output A → Chunk → Output A
+  unfoldable pub put : Output A → Chunk → Output A
   put o chunk = output (o .end + length (piece chunk)) (sets (o .holds) (o .end) (piece chunk))
 
   all-put : (o : Output A) (chunks : List Chunk) → gathered put o chunks ≡ output (o .end + length (joined piece chunks)) (sets (o .holds) (o .end) (joined piece chunks))
-  unfolding gathered joined
+  unfolding gathered put joined
   all-put o [] = rw (add-zero (o .end))
   all-put o (chunk ∷ chunks) =
       let p = piece chunk in
@@ -78,4 +78,5 @@ module _ {A : Type 0} (piece : Chunk → List A) where
             omega (arith, ap (λ (o : Output A). o .end) left, simp length-append at (ap length r))
 
         pub put-found : (end′ : ℕ) (out′ : List A) → end′ ≡ end + length (piece chunk) → out′ ≡ sets out end (piece chunk) → Putting (chunk .next) end′ out′
+        unfolding put
         put-found end′ out′ f h = rw (f, h) (loop-goes-on put container reading start (output 0 out₀) c (output end out) loop chunk e)

@@ -21,7 +21,7 @@ returns : tie.Need-returns
 returns c =
     let test = c .before .before in
     let film = test .before .before in
-    oversized _ _ _ _ _ _ _ _ _ (sym (film .before .before .survey .ensures) ∙ film .header .given .1) (sym (test .exceed .ensures) ∙ c .before .if1 .taken) _
+    oversized _ _ _ _ _ _ _ _ _ _ (sym (film .before .before .survey .ensures) ∙ film .header .given .1) (sym (test .exceed .ensures) ∙ c .before .if1 .taken) _
     (c .refused .ensures)
 
 lacks-requires : tie.Need-lacks-requires
@@ -35,22 +35,18 @@ returns-2 c =
     let room = c .before .before in
     let test = room .before .before in
     let film = test .before .before in
-    short-output _ _ _ _ _ _ _ _ _ (sym (film .before .before .survey .ensures) ∙ film .header .given .1) (sym (test .exceed .ensures) ∙ room .before .if1 .left)
+    short-output _ _ _ _ _ _ _ _ _ _ (sym (film .before .before .survey .ensures) ∙ film .header .given .1) (sym (test .exceed .ensures) ∙ room .before .if1 .left)
     (sym (room .lacks .ensures) ∙ c .before .if2 .taken) _ (c .refused2 .ensures)
-
-applied-to-requires : tie.Need-applied-to-requires
-applied-to-requires c κs = search needs
 
 unmasking-of-requires : tie.Need-unmasking-of-requires
 unmasking-of-requires c κs = search needs
 
 write-streams-requires : tie.Need-write-streams-requires
 write-streams-requires c κs =
-    let choice = c .before .before .before in
-    let room = choice .before .before in
+    let tables = c .before .before in
+    let room = tables .before .before in
     let film = room .before .before .before .before in
-    both-fit _ _ _ _ _ _ (sym (film .before .before .survey .ensures) ∙ film .header .given .1) _ _
-    (sym (room .lacks .ensures) ∙ choice .before .if2 .left) _ (choice .applied-to .ensures)
+    both-fit _ _ _ _ _ _ _ (sym (film .before .before .survey .ensures) ∙ film .header .given .1) _ _ (sym (room .lacks .ensures) ∙ tables .before .if2 .left)
 
 contents-of-requires : tie.Need-contents-of-requires
 contents-of-requires c κs = search needs
@@ -68,13 +64,12 @@ returns-3 : tie.Need-returns-3
 returns-3 c =
     let written = c .before .before .before .before .before in
     let tables = written .before .before .before in
-    let choice = tables .before in
-    let room = choice .before .before in
+    let room = tables .before .before in
     let test = room .before .before in
     let film = test .before .before in
-    extracted-film _ _ _ _ _ _ _ _ _ (sym (film .before .before .survey .ensures) ∙ film .header .given .1) (sym (test .exceed .ensures) ∙ room .before .if1 .left)
-    (sym (room .lacks .ensures) ∙ choice .before .if2 .left) _ (choice .applied-to .ensures) _ (tables .unmasking-of .ensures) _ (c .contents-of .ensures) _ _
-    (written .write-streams .ensures .0) (written .write-streams .ensures .1)
+    extracted-film _ _ _ _ _ _ _ _ _ _ (sym (film .before .before .survey .ensures) ∙ film .header .given .1) (sym (test .exceed .ensures) ∙ room .before .if1 .left)
+    (sym (room .lacks .ensures) ∙ tables .before .if2 .left) _ (tables .unmasking-of .ensures) _ (c .contents-of .ensures) _ _ (written .write-streams .ensures .0)
+    (written .write-streams .ensures .1)
 
 returns-4 : tie.Need-returns-4
 returns-4 c =
@@ -94,7 +89,6 @@ extract-spec =
     lacks-requires
     refused-requires-2
     returns-2
-    applied-to-requires
     unmasking-of-requires
     write-streams-requires
     contents-of-requires

@@ -7,13 +7,13 @@ use borrow.Author.Needs.{needs}
 use lib.ListN.{length}
 use Rattle.walk.proofs.WalkLaws.{falls}
 use Rattle.extract.proofs.StreamLaws.{videoUnder, audioUnder}
-use Rattle.extract.proofs.WrittenLaws.{Written, none-written, all-written, all-before-refusal, room-for, one-more-written}
+use Rattle.extract.proofs.WrittenLaws.{Writing, none-written, as-long, all-written, all-before-refusal, room-for, one-more-written}
 use Rattle.extract.proofs.write_streams.Statement.{statement}
 use Rattle.extract.proofs.write_streams.Tie as tie
 
 abbrev Inv-loop : tie.InvT-loop
 Inv-loop container start reading unmasking video₀ audio₀ at₀ seen₀ heard₀ video audio at seen heard =
-    Written (videoUnder unmasking) container reading start at seen video₀ video × Written (audioUnder unmasking) container reading start at heard audio₀ audio
+    Writing (videoUnder unmasking) container reading start video₀ at seen video × Writing (audioUnder unmasking) container reading start audio₀ at heard audio
 
 abbrev μ-loop : tie.MeasureT-loop
 μ-loop container start reading unmasking video₀ audio₀ at₀ seen₀ heard₀ video audio at seen heard = length container - at
@@ -28,10 +28,10 @@ enum-told : tie.Need-enum-told Inv-loop μ-loop
 enum-told c = search needs
 
 same-length : tie.Need-same-length Inv-loop μ-loop
-same-length c = c .before .before .before .loop .inv .0 .long
+same-length c = as-long _ _ _ _ _ _ _ _ (c .before .before .before .loop .inv .0)
 
 same-length-2 : tie.Need-same-length-2 Inv-loop μ-loop
-same-length-2 c = c .before .before .before .loop .inv .1 .long
+same-length-2 c = as-long _ _ _ _ _ _ _ _ (c .before .before .before .loop .inv .1)
 
 returns : tie.Need-returns Inv-loop μ-loop
 returns c =
@@ -44,10 +44,10 @@ enum-told-2 : tie.Need-enum-told-2 Inv-loop μ-loop
 enum-told-2 c = search needs
 
 same-length-3 : tie.Need-same-length-3 Inv-loop μ-loop
-same-length-3 c = c .before .before .before .loop .inv .0 .long
+same-length-3 c = as-long _ _ _ _ _ _ _ _ (c .before .before .before .loop .inv .0)
 
 same-length-4 : tie.Need-same-length-4 Inv-loop μ-loop
-same-length-4 c = c .before .before .before .loop .inv .1 .long
+same-length-4 c = as-long _ _ _ _ _ _ _ _ (c .before .before .before .loop .inv .1)
 
 returns-2 : tie.Need-returns-2 Inv-loop μ-loop
 returns-2 c =
@@ -70,64 +70,72 @@ audio-part-requires c κs = search needs
 
 put-video-requires : tie.Need-put-video-requires Inv-loop μ-loop
 put-video-requires c κs =
-    let picture = c .before .before in
-    let payload = picture .before in
+    let for-video = c .before .before in
+    let payload = for-video .before in
     let found = payload .before .before in
     let step = found .before .before in
     let w = step .before .loop .inv in
     let start = step .before .before .before .before .before in
-    room-for _ _ _ _ _ _ _ _ (w .0) _ (sym (step .chunk-at .ensures) ∙ found .chunk .given .1) _ _ (payload .payload-of .ensures) (picture .video-part .ensures) (start .pre .0)
+    room-for _ _ _ _ _ _ _ _ (w .0) _ (sym (step .chunk-at .ensures) ∙ found .chunk .given .1) _ _ (payload .payload-of .ensures .2) (for-video .video-part .ensures) (start .pre .0)
 
 put-audio-requires : tie.Need-put-audio-requires Inv-loop μ-loop
 put-audio-requires c κs =
-    let sound = c .before .before .before .before .before in
-    let payload = sound .before .before in
+    let for-audio = c .before .before .before .before .before in
+    let payload = for-audio .before .before in
     let found = payload .before .before in
     let step = found .before .before in
     let w = step .before .loop .inv in
     let start = step .before .before .before .before .before in
-    room-for _ _ _ _ _ _ _ _ (w .1) _ (sym (step .chunk-at .ensures) ∙ found .chunk .given .1) _ _ (payload .payload-of .ensures) (sound .audio-part .ensures) (start .pre .1)
+    room-for _ _ _ _ _ _ _ _ (w .1) _ (sym (step .chunk-at .ensures) ∙ found .chunk .given .1) _ _ (payload .payload-of .ensures .2) (for-audio .audio-part .ensures) (start .pre .1)
 
 add-seen : tie.Need-add-seen Inv-loop μ-loop
 add-seen c =
-    let picture = c .before .before .before .before .before .before .before .before .before in
-    let payload = picture .before in
+    let put-audio = c .before .before in
+    let put-video = put-audio .before .before .before .before in
+    let for-video = put-video .before .before .before in
+    let payload = for-video .before in
     let found = payload .before .before in
     let step = found .before .before in
     let w = step .before .loop .inv in
     let start = step .before .before .before .before .before in
     let e = sym (step .chunk-at .ensures) ∙ found .chunk .given .1 in
-    omega (arith, room-for _ _ _ _ _ _ _ _ (w .0) _ e _ _ (payload .payload-of .ensures) (picture .video-part .ensures) (start .pre .0), w .0 .long, start .good)
+    let room = room-for _ _ _ _ _ _ _ _ (w .0) _ e _ _ (payload .payload-of .ensures .2) (for-video .video-part .ensures) (start .pre .0) in
+    omega (arith, room, as-long _ _ _ _ _ _ _ _ (w .0), start .good)
 
 add-heard : tie.Need-add-heard Inv-loop μ-loop
 add-heard c =
-    let sound = c .before .before .before .before .before .before .before .before in
-    let payload = sound .before .before in
+    let put-audio = c .before .before in
+    let put-video = put-audio .before .before .before .before in
+    let for-audio = put-video .before .before in
+    let payload = for-audio .before .before in
     let found = payload .before .before in
     let step = found .before .before in
     let w = step .before .loop .inv in
     let start = step .before .before .before .before .before in
     let e = sym (step .chunk-at .ensures) ∙ found .chunk .given .1 in
-    omega (arith, room-for _ _ _ _ _ _ _ _ (w .1) _ e _ _ (payload .payload-of .ensures) (sound .audio-part .ensures) (start .pre .1), w .1 .long, start .good)
+    let room = room-for _ _ _ _ _ _ _ _ (w .1) _ e _ _ (payload .payload-of .ensures .2) (for-audio .audio-part .ensures) (start .pre .1) in
+    omega (arith, room, as-long _ _ _ _ _ _ _ _ (w .1), start .good)
 
 loop-less : tie.Need-loop-less Inv-loop μ-loop
 loop-less c =
-    let found = c .before .before .before .before .before .before .before .before .before .before .before .before in
+    let put-audio = c .before .before in
+    let put-video = put-audio .before .before .before .before in
+    let found = put-video .before .before .before .before .before .before in
     falls _ _ _ _ (sym (found .before .before .chunk-at .ensures) ∙ found .chunk .given .1)
 
 loop-again : tie.Need-loop-again Inv-loop μ-loop
 loop-again c =
-    let put = c .before .before in
-    let seen = put .before .before .before .before in
-    let sound = seen .before .before in
-    let picture = sound .before in
-    let payload = picture .before in
+    let put-audio = c .before .before in
+    let put-video = put-audio .before .before .before .before in
+    let for-audio = put-video .before .before in
+    let for-video = for-audio .before in
+    let payload = for-video .before in
     let found = payload .before .before in
     let step = found .before .before in
     let w = step .before .loop .inv in
     let e = sym (step .chunk-at .ensures) ∙ found .chunk .given .1 in (
-      one-more-written _ _ _ _ _ _ _ _ (w .0) _ e _ _ (payload .payload-of .ensures) (picture .video-part .ensures) _ (seen .put-video .ensures),
-      one-more-written _ _ _ _ _ _ _ _ (w .1) _ e _ _ (payload .payload-of .ensures) (sound .audio-part .ensures) _ (put .put-audio .ensures),
+      one-more-written _ _ _ _ _ _ _ _ (w .0) _ e _ _ (payload .payload-of .ensures .2) (for-video .video-part .ensures) _ (put-video .put-video .ensures),
+      one-more-written _ _ _ _ _ _ _ _ (w .1) _ e _ _ (payload .payload-of .ensures .2) (for-audio .audio-part .ensures) _ (put-audio .put-audio .ensures),
     )
 
 pub write-streams-spec : {M : Type 1} → statement M
