@@ -10,6 +10,7 @@ use lib.Ieee.{binary32, ofBits}
 use borrow.Author.Tests.{leb-true}
 use Rattle.word.specs.Numbers.{be32}
 use Rattle.refusal.specs.declared.Cause.the-variants.{RanOut, UnknownType}
+use Rattle.layout.specs.declared.Layout.{Layout}
 use Rattle.cell.specs.declared.Cell.{Cell}
 use Rattle.cell.specs.declared.Cell.the-variants.{Nothing, Unsigned, Signed, Float, NotANumber, Text, Data}
 use Rattle.cell.specs.declared.CellAnswer.{CellAnswer}
@@ -52,26 +53,27 @@ module _ (b : List ℕ) where
   float-kept true n = tt
   float-kept false n = tt
 
-  value-kept : (k : Kind) (p s d : ℕ) → Kept b (valueAt k b p s d)
+  value-kept : (k : Kind) (p : ℕ) (l : Layout) → Kept b (valueAt k b p l)
   unfolding valueAt
-  value-kept u8 p s d = tt
-  value-kept i8 p s d = tt
-  value-kept u16 p s d = tt
-  value-kept i16 p s d = tt
-  value-kept u32 p s d = tt
-  value-kept i32 p s d = tt
-  value-kept u64 p s d = tt
-  value-kept f32 p s d = float-kept (leb (be32 b p % 2 ^ 31) 0x7F800000) (be32 b p)
-  value-kept text p s d = text-kept (s + be32 b p) (endOf b (s + be32 b p)) refl
-  value-kept blob p s d =
-      data-kept (eqb (be32 b (p + 4)) 0) (ltb (d + be32 b p) 24) (leb (d + be32 b p - 24 + be32 b (p + 4)) (length b)) (d + be32 b p - 24) (be32 b (p + 4)) refl
-  value-kept unknown p s d = tt
+  value-kept u8 p l = tt
+  value-kept i8 p l = tt
+  value-kept u16 p l = tt
+  value-kept i16 p l = tt
+  value-kept u32 p l = tt
+  value-kept i32 p l = tt
+  value-kept u64 p l = tt
+  value-kept f32 p l = float-kept (leb (be32 b p % 2 ^ 31) 0x7F800000) (be32 b p)
+  value-kept text p l = text-kept (l .strings + be32 b p) (endOf b (l .strings + be32 b p)) refl
+  value-kept blob p l =
+      let place = l .blobs + be32 b p in
+      data-kept (eqb (be32 b (p + 4)) 0) (ltb place 24) (leb (place - 24 + be32 b (p + 4)) (length b)) (place - 24) (be32 b (p + 4)) refl
+  value-kept unknown p l = tt
 
-  pub cell-kept : (k p s d : ℕ) → Kept b (cellAt b k p s d)
+  pub cell-kept : (k p : ℕ) (l : Layout) → Kept b (cellAt b k p l)
   unfolding cellAt
-  cell-kept k p s d = go (eqb (widthOf k) 0) (leb (p + widthOf k) (length b))
+  cell-kept k p l = go (eqb (widthOf k) 0) (leb (p + widthOf k) (length b))
     where
-      go : (t u : Bool) → Kept b (cond t (Refused (UnknownType k)) (cond u (valueAt (kindOf k) b p s d) (Refused RanOut)))
+      go : (t u : Bool) → Kept b (cond t (Refused (UnknownType k)) (cond u (valueAt (kindOf k) b p l) (Refused RanOut)))
       go true u = tt
-      go false true = value-kept (kindOf k) p s d
+      go false true = value-kept (kindOf k) p l
       go false false = tt

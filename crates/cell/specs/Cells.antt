@@ -9,6 +9,7 @@ use lib.Ieee.{binary32, ofBits}
 use Rattle.laws.specs.Lists.{at}
 use Rattle.word.specs.Numbers.{be16, be32, be64}
 use Rattle.refusal.specs.declared.Cause.the-variants.{RanOut, UnknownType}
+use Rattle.layout.specs.declared.Layout.{Layout}
 use Rattle.cell.specs.Types.{Kind, u8, i8, u16, i16, u32, i32, u64, f32, text, blob, unknown, kindOf, widthOf}
 use Rattle.cell.specs.Parts.{textAt, dataAt}
 use Rattle.cell.specs.declared.Cell.{Cell}
@@ -29,22 +30,22 @@ bitsOf (negsuc k) top = top - k
 abbrev pub floatCell : ℕ → Cell
 floatCell bits = cond (leb (bits % 2 ^ 31) 0x7F800000) (Float (ofBits binary32 bits)) (NotANumber bits)
 
--- the value of each type whose bytes stand at body byte p; s and d are the table's string and data offset
-unfoldable pub valueAt : Kind → List ℕ → ℕ → ℕ → ℕ → CellAnswer
-valueAt u8 body p s d = Got (Unsigned (at body p))
-valueAt i8 body p s d = Got (Signed (signedOf (at body p) 0xFF))
-valueAt u16 body p s d = Got (Unsigned (be16 body p))
-valueAt i16 body p s d = Got (Signed (signedOf (be16 body p) 0xFFFF))
-valueAt u32 body p s d = Got (Unsigned (be32 body p))
-valueAt i32 body p s d = Got (Signed (signedOf (be32 body p) 0xFFFFFFFF))
-valueAt u64 body p s d = Got (Unsigned (be64 body p))
-valueAt f32 body p s d = Got (floatCell (be32 body p))
-valueAt text body p s d = textAt body (s + be32 body p)
-valueAt blob body p s d = dataAt body (d + be32 body p) (be32 body (p + 4))
-valueAt unknown body p s d = Got Nothing
+-- the value of each type whose bytes stand at body byte p; l is the table's layout
+unfoldable pub valueAt : Kind → List ℕ → ℕ → Layout → CellAnswer
+valueAt u8 body p l = Got (Unsigned (at body p))
+valueAt i8 body p l = Got (Signed (signedOf (at body p) 0xFF))
+valueAt u16 body p l = Got (Unsigned (be16 body p))
+valueAt i16 body p l = Got (Signed (signedOf (be16 body p) 0xFFFF))
+valueAt u32 body p l = Got (Unsigned (be32 body p))
+valueAt i32 body p l = Got (Signed (signedOf (be32 body p) 0xFFFFFFFF))
+valueAt u64 body p l = Got (Unsigned (be64 body p))
+valueAt f32 body p l = Got (floatCell (be32 body p))
+valueAt text body p l = textAt body (l .strings + be32 body p)
+valueAt blob body p l = dataAt body (l .blobs + be32 body p) (be32 body (p + 4))
+valueAt unknown body p l = Got Nothing
 
 -- "An unknown type is refused when its value would be read"; then bytes that run out
-unfoldable pub cellAt : List ℕ → ℕ → ℕ → ℕ → ℕ → CellAnswer
-cellAt body k p s d =
+unfoldable pub cellAt : List ℕ → ℕ → ℕ → Layout → CellAnswer
+cellAt body k p l =
     cond (eqb (widthOf k) 0) (Refused (UnknownType k))
-    (cond (leb (p + widthOf k) (length body)) (valueAt (kindOf k) body p s d) (Refused RanOut))
+    (cond (leb (p + widthOf k) (length body)) (valueAt (kindOf k) body p l) (Refused RanOut))

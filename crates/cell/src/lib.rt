@@ -9,6 +9,8 @@ ghost use Rattle.cell.specs.Parts.{zeroFrom, endOf, textAt, dataAt};
 ghost use Rattle.cell.specs.Cells.{signedOf, bitsOf, floatCell, valueAt, cellAt};
 ghost use Rattle.cell.specs.CellNumbers.{caseOf, valueOf, lengthOf};
 ghost use Rattle.cell.specs.CellParts.{startOf, PartOf};
+use layout::BODY;
+use layout::Layout;
 use refusal::Cause;
 
 // What a cell holds. A float whose bits are a NaN's keeps its bits. Parts are parts of the table's body.
@@ -33,9 +35,6 @@ pub enum Ending {
     At(usize),
     Endless,
 }
-
-// Place p of a table is body byte p - 24.
-pub const BODY: usize = 24;
 
 // The bytes that a value of each type takes; 0 marks an unknown type.
 const WIDTHS: [u8; 16] = [1, 1, 2, 2, 4, 4, 8, 0, 4, 0, 4, 8, 0, 0, 0, 0];
@@ -136,10 +135,10 @@ pub fn data_at(body: &[u8], place: usize, size: usize) -> CellAnswer
     CellAnswer::Got(Cell::Data { start, len: size })
 }
 
-// The value of a type whose bytes stand at a body byte. `strings` and `blobs` are the table's string and data offset.
-fn value_at(body: &[u8], kind: u8, at: usize, strings: u32, blobs: u32) -> CellAnswer
+// The value of a type whose bytes stand at a body byte.
+fn value_at(body: &[u8], kind: u8, at: usize, layout: Layout) -> CellAnswer
     requires { ⌜ at + widthOf kind ≤ length (now body) ⌝ }
-    ensures { λ r. ⌜ r ≡ valueAt (kindOf kind) (now (body .entry)) at strings blobs ⌝ }
+    ensures { λ r. ⌜ r ≡ valueAt (kindOf kind) (now (body .entry)) at layout ⌝ }
 {
     match kind {
         0 => CellAnswer::Got(Cell::Unsigned(word::read8(body, at) as u64)),
@@ -150,10 +149,10 @@ fn value_at(body: &[u8], kind: u8, at: usize, strings: u32, blobs: u32) -> CellA
         5 => CellAnswer::Got(Cell::Signed(signed_of(word::read32(body, at), 0xFFFF_FFFF))),
         6 => CellAnswer::Got(Cell::Unsigned(word::read64(body, at) as u64)),
         8 => CellAnswer::Got(float_of(word::read32(body, at))),
-        10 => text_at(body, (strings as usize) + word::read32(body, at)),
+        10 => text_at(body, (layout.strings as usize) + word::read32(body, at)),
         11 => data_at(
             body,
-            (blobs as usize) + word::read32(body, at),
+            (layout.blobs as usize) + word::read32(body, at),
             word::read32(body, at + 4),
         ),
         _ => CellAnswer::Got(Cell::Nothing),
@@ -161,8 +160,8 @@ fn value_at(body: &[u8], kind: u8, at: usize, strings: u32, blobs: u32) -> CellA
 }
 
 // The cell of a type at a body byte. The Rust's `read_column_data`.
-pub fn read_cell(body: &[u8], kind: u8, at: usize, strings: u32, blobs: u32) -> CellAnswer
-    ensures { λ r. ⌜ r ≡ cellAt (now (body .entry)) kind at strings blobs ⌝ }
+pub fn read_cell(body: &[u8], kind: u8, at: usize, layout: Layout) -> CellAnswer
+    ensures { λ r. ⌜ r ≡ cellAt (now (body .entry)) kind at layout ⌝ }
 {
     let width = width_of(kind);
     if width == 0 {
@@ -171,7 +170,7 @@ pub fn read_cell(body: &[u8], kind: u8, at: usize, strings: u32, blobs: u32) -> 
     if word::left_from(body, at) < width {
         return CellAnswer::Refused(Cause::RanOut);
     }
-    value_at(body, kind, at, strings, blobs)
+    value_at(body, kind, at, layout)
 }
 
 // The number of a cell's case.

@@ -7,49 +7,45 @@ use lib.Dec.{leb}
 use Rattle.laws.specs.Lists.{at}
 use Rattle.word.specs.Numbers.{be32}
 use Rattle.refusal.specs.declared.Cause.the-variants.{RanOut}
-use Rattle.cell.specs.declared.Cell.the-variants.{Nothing}
+use Rattle.layout.specs.declared.Layout.{Layout}
 use Rattle.cell.specs.declared.CellAnswer.{CellAnswer}
 use Rattle.cell.specs.declared.CellAnswer.the-variants.{Got, Refused}
 use Rattle.cell.specs.declared.Ending.{Ending}
 use Rattle.cell.specs.declared.Ending.the-variants.{At, Endless}
-use Rattle.cell.specs.Types.{widthOf}
 use Rattle.cell.specs.Parts.{endOf}
-use Rattle.cell.specs.Cells.{cellAt}
 use Rattle.cell.proofs.BoundLaws.{Inside, Kept, cell-kept}
+use Rattle.column.specs.declared.Storage.{Storage}
+use Rattle.column.specs.declared.Storage.the-variants.{Constant, Stored}
 use Rattle.column.specs.declared.ColumnAnswer.{ColumnAnswer}
 use Rattle.column.specs.declared.ColumnAnswer.the-variants.{Found, NoColumn}
-use Rattle.column.specs.Columns.{isConstant, constantColumn, columnFrom, named, columnAt}
+use Rattle.column.specs.Storages.{storageOf, inRecord, constantAt}
+use Rattle.column.specs.Columns.{columnOf, columnFrom, named, columnAt}
 
 abbrev pub KeptIn : List ℕ → ColumnAnswer → Type 0
 KeptIn b (Found c) = Inside b (c .constant)
 KeptIn b (NoColumn cause) = Unit
 
 module _ (b : List ℕ) where
-  constant-kept : (name kind next : ℕ) (x : CellAnswer) → Kept b x → KeptIn b (constantColumn name kind next x)
-  constant-kept name kind next (Got c) h = h
-  constant-kept name kind next (Refused cause) h = tt
+  constant-kept : (x : Storage) (k p : ℕ) (l : Layout) → Kept b (constantAt b x k p l)
+  constant-kept Constant k p l = cell-kept b k p l
+  constant-kept Stored k p l = tt
 
-  from-kept : (p name s d : ℕ) → KeptIn b (columnFrom b p name s d)
-  unfolding columnFrom
-  from-kept p name s d = go (isConstant (at b p))
+  column-of-kept : (name tag next : ℕ) (x : CellAnswer) → Kept b x → KeptIn b (columnOf name tag next x)
+  column-of-kept name tag next (Got c) h = h
+  column-of-kept name tag next (Refused cause) h = tt
+
+  named-kept : (p name : ℕ) (l : Layout) (x : Ending) → KeptIn b (named b p name l x)
+  unfolding named columnFrom
+  named-kept p name l (At z) =
+      column-of-kept name (at b p) (p + inRecord (at b p)) (constantAt b (storageOf (at b p)) (at b p % 16) (p + 5) l)
+      (constant-kept (storageOf (at b p)) (at b p % 16) (p + 5) l)
+  named-kept p name l Endless = tt
+
+  pub column-kept : (p : ℕ) (l : Layout) → KeptIn b (columnAt b p l)
+  unfolding columnAt
+  column-kept p l = go (leb (p + 5) (length b))
     where
       go : (t : Bool)
-          → KeptIn b
-          (cond t (constantColumn name (at b p % 16) (p + 5 + widthOf (at b p % 16)) (cellAt b (at b p % 16) (p + 5) s d))
-          (Found (record { name = name; kind = at b p % 16; constant = Nothing; next = p + 5 })))
-      go true =
-          constant-kept name (at b p % 16) (p + 5 + widthOf (at b p % 16)) (cellAt b (at b p % 16) (p + 5) s d) (cell-kept b (at b p % 16) (p + 5) s d)
-      go false = tt
-
-  named-kept : (p name s d : ℕ) (x : Ending) → KeptIn b (named b p name s d x)
-  unfolding named
-  named-kept p name s d (At z) = from-kept p name s d
-  named-kept p name s d Endless = tt
-
-  pub column-kept : (p s d : ℕ) → KeptIn b (columnAt b p s d)
-  unfolding columnAt
-  column-kept p s d = go (leb (p + 5) (length b))
-    where
-      go : (t : Bool) → KeptIn b (cond t (named b p (s + be32 b (p + 1)) s d (endOf b (s + be32 b (p + 1)))) (NoColumn RanOut))
-      go true = named-kept p (s + be32 b (p + 1)) s d (endOf b (s + be32 b (p + 1)))
+          → KeptIn b (cond t (named b p (l .strings + be32 b (p + 1)) l (endOf b (l .strings + be32 b (p + 1)))) (NoColumn RanOut))
+      go true = named-kept p (l .strings + be32 b (p + 1)) l (endOf b (l .strings + be32 b (p + 1)))
       go false = tt

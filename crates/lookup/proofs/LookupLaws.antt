@@ -1,57 +1,68 @@
 -- The cases of a look-up, one for each return of the code; and that a part of a table at a place ends within the slice. Assumes nothing.
-use mathlib.Core.Path.{_≡_, sym, ap, _∙_, subst⁻¹}
+use mathlib.Core.Path.{_≡_, refl, ap}
 use mathlib.Core.List.{List}
+use mathlib.Core.Bool.{Bool, true, false, cond}
 use Prim.Native.Nat.{ℕ, _+_, _-_, _≤_, _<_}
 use native.Mathlib.Omega.{arith}
 use lib.ListN.{length, take, drop, length-take, length-drop}
+use lib.Seq.{drop-drop}
+use lib.Dec.{ltb}
 use borrow.Author.Tests.{lt-ltb, le-ltb}
-use Rattle.word.specs.Numbers.{be32}
 use Rattle.refusal.specs.declared.Refusal.{Refusal}
+use Rattle.layout.specs.declared.Layout.{Layout}
+use Rattle.layout.specs.Layouts.{bodyOf}
 use Rattle.cell.specs.declared.Cell.the-variants.{Nothing}
+use Rattle.cell.specs.declared.CellAnswer.{CellAnswer}
+use Rattle.cell.specs.declared.CellAnswer.the-variants.{Got, Refused}
 use Rattle.table.specs.declared.TableAnswer.the-variants.{Table, NoTable}
 use Rattle.table.specs.Tables.{tableAt}
-use Rattle.table.proofs.TableLaws.{sound, from-place}
+use Rattle.lookup.specs.declared.Lookup.{Lookup}
 use Rattle.lookup.specs.declared.Lookup.the-variants as lookup
-use Rattle.lookup.specs.Lookups.{tableCell, endOfAnswer, placed, cellFrom, cellOf}
-use Rattle.lookup.proofs.CellLaws.{table-cell-end}
+use Rattle.lookup.specs.Lookups.{endOfPart, endOfAnswer, bodyCell, placed, cellFrom, cellOf, lastCellOf}
+use Rattle.lookup.proofs.CellLaws.{body-cell-end}
 
-module _ (bytes : List ℕ) (place : ℕ) (name : List ℕ) (row : ℕ) where
-  pub no-table : (x : Refusal) → tableAt bytes place ≡ NoTable x → lookup.NoTable x ≡ cellOf bytes place name row
-  unfolding cellFrom
-  no-table x e = sym (ap (cellFrom bytes place name row) e)
+-- where the part of an answer ends, 0 where there is none
+abbrev pub end-of : Lookup → ℕ
+end-of (lookup.Holds c) = endOfPart c
+end-of (lookup.NoTable refusal) = 0
 
-  module _ (columns rows : ℕ) (e : tableAt bytes place ≡ Table columns rows) where
-    pub no-row : rows ≤ row → lookup.Holds Nothing ≡ cellOf bytes place name row
+module _ (bytes : List ℕ) (place : ℕ) (name : List ℕ) where
+  module _ (row : ℕ) (l : Layout) where
+    pub no-row : l .rows ≤ row → lookup.Holds Nothing ≡ cellFrom bytes place name row l
     unfolding cellFrom
-    no-row h = rw (le-ltb row rows h) at (sym (ap (cellFrom bytes place name row) e))
+    no-row h = rw (le-ltb row (l .rows) h)
 
-    pub in-row : row < rows → placed place (tableCell (drop place bytes) name columns row) ≡ cellOf bytes place name row
+    pub in-row : (x : CellAnswer) → row < l .rows → x ≡ bodyCell (take (place + 32 + l .size - (place + 32)) (drop (place + 32) bytes)) (place + 32) l name row
+        → placed place x ≡ cellFrom bytes place name row l
     unfolding cellFrom
-    in-row h = rw (lt-ltb row rows h) at (sym (ap (cellFrom bytes place name row) e))
+    in-row x h e =
+        let size : place + 32 + l .size - (place + 32) ≡ l .size = omega arith in
+        rw (lt-ltb row (l .rows) h, drop-drop 32 place bytes) (ap (placed place) (rw size at e))
 
-    -- the table lies within the slice
-    pub within : place ≤ length bytes
-    within = omega (arith, sound place (drop place bytes) columns rows e, length-drop place bytes)
+    placed-end : (x : CellAnswer) → end-of (placed place x) ≡ endOfAnswer x
+    placed-end (Got c) = refl
+    placed-end (Refused why) = refl
 
-    -- what a slice has from the place on is the table and what follows it
-    abbrev t : List ℕ
-    t = take (length bytes - place) (drop place bytes)
-
-    t-is : t ≡ drop place bytes
-    t-is = from-place bytes place within
-
-    pub header : ((columns ≤ 64) × (rows ≤ 256)) × ((24 ≤ be32 t 4) × (be32 t 4 + 8 ≤ length t))
-    header =
-        subst⁻¹ (λ (l : List ℕ). ((columns ≤ 64) × (rows ≤ 256)) × ((24 ≤ be32 l 4) × (be32 l 4 + 8 ≤ length l))) t-is (sound place (drop place bytes) columns rows e)
-
-    -- a part of the table ends within the slice
-    pub part-end : place + 32 + endOfAnswer (tableCell t name columns row) ≤ length bytes
-    part-end =
+    by-row : place + (32 + l .size) ≤ length bytes → (t : Bool)
+        → end-of (cond t (placed place (bodyCell (bodyOf (drop place bytes) l) (place + 32) l name row)) (lookup.Holds Nothing)) ≤ length bytes
+    by-row h true =
+        let b = bodyOf (drop place bytes) l in
         omega
-        (arith, table-cell-end t name columns row, header, length-take (be32 t 4 - 24) (drop 32 t), length-drop 32 t, length-take (length bytes - place) (drop place bytes), length-drop place bytes, within)
+        (arith, placed-end (bodyCell b (place + 32) l name row), body-cell-end b (place + 32) l name row, length-take (l .size) (drop 32 (drop place bytes)), length-drop 32 (drop place bytes), length-drop place bytes)
+    by-row h false = omega arith
 
-    pub in-row-read : row < rows → placed place (tableCell t name columns row) ≡ cellOf bytes place name row
-    in-row-read h = ap (λ (l : List ℕ). placed place (tableCell l name columns row)) t-is ∙ in-row h
+    pub from-end : place + (32 + l .size) ≤ length bytes → end-of (cellFrom bytes place name row l) ≤ length bytes
+    unfolding cellFrom
+    from-end h = by-row h (ltb row (l .rows))
 
-    pub part-end-dropped : place + 32 + endOfAnswer (tableCell (drop place bytes) name columns row) ≤ length bytes
-    part-end-dropped = omega (arith, part-end, ap (λ (l : List ℕ). endOfAnswer (tableCell l name columns row)) t-is)
+  pub no-table : (row : ℕ) (x : Refusal) → tableAt bytes place ≡ NoTable x → lookup.NoTable x ≡ cellOf bytes place name row
+  no-table row x e = rw e
+
+  pub in-table : (row : ℕ) (l : Layout) → tableAt bytes place ≡ Table l → cellFrom bytes place name row l ≡ cellOf bytes place name row
+  in-table row l e = rw e
+
+  pub no-last : (x : Refusal) → tableAt bytes place ≡ NoTable x → lookup.NoTable x ≡ lastCellOf bytes place name
+  no-last x e = rw e
+
+  pub last-in-table : (l : Layout) → tableAt bytes place ≡ Table l → cellFrom bytes place name (l .rows - 1) l ≡ lastCellOf bytes place name
+  last-in-table l e = rw e

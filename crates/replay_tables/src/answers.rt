@@ -63,7 +63,7 @@ fn write_held(bytes: &[u8], cell: Cell) {
 // Writes the answer on the table that the bytes begin with.
 pub(crate) fn write_table(bytes: &[u8]) {
     match table::read_table(bytes, 0) {
-        TableAnswer::Table { columns: _, rows } => write_number(b"table ", rows as u64),
+        TableAnswer::Table(layout) => write_number(b"table ", layout.rows as u64),
         TableAnswer::NoTable(refusal) => write_refusal(refusal),
     }
 }

@@ -2,25 +2,32 @@
 use mathlib.Core.Path.{_≡_, refl, sym, ap, _∙_}
 use mathlib.Core.List.{List}
 use mathlib.Core.Bool.{Bool, true, false, cond}
-use Prim.Native.Nat.{ℕ, zero, suc, _+_, _-_, _%_, _<_, _≤_}
+use Prim.Native.Nat.{ℕ, _+_, _-_, _%_, _<_, _≤_}
+use native.Mathlib.Nat.{add-zero}
 use native.Mathlib.Omega.{arith}
-use lib.ListN.{length}
-use borrow.Author.Tests.{eq-eqb, ne-eqb, le-leb, lt-leb}
+use lib.ListN.{length, List·getD-eq-default}
+use lib.Dec.{T, eqb, ltb}
+use borrow.Author.Tests.{eq-eqb, ne-eqb, le-leb, lt-leb, ltb-true, ltb-false}
 use Rattle.laws.specs.Lists.{at}
 use Rattle.word.specs.Numbers.{be32}
 use Rattle.refusal.specs.declared.Cause.{Cause}
 use Rattle.refusal.specs.declared.Cause.the-variants.{RanOut, UnknownType}
+use Rattle.layout.specs.declared.Layout.{Layout}
+use Rattle.cell.specs.declared.Cell.the-variants.{Nothing}
 use Rattle.cell.specs.declared.CellAnswer.{CellAnswer}
 use Rattle.cell.specs.declared.CellAnswer.the-variants.{Got, Refused}
 use Rattle.cell.specs.declared.Ending.{Ending}
 use Rattle.cell.specs.declared.Ending.the-variants.{At, Endless}
-use Rattle.cell.specs.Types.{kindOf, widthOf}
+use Rattle.cell.specs.Types.{Kind, unknown, kinds, kindOf, widthOf}
 use Rattle.cell.specs.Parts.{endOf, textTo, textAt}
 use Rattle.cell.specs.Cells.{valueAt, cellAt}
+use Rattle.cell.proofs.Entries.{every, entry}
 use Rattle.column.specs.declared.ColumnAnswer.{ColumnAnswer}
 use Rattle.column.specs.declared.ColumnAnswer.the-variants.{Found, NoColumn}
-use Rattle.column.specs.Columns.{isConstant, constantColumn, columnFrom, columnAt}
-use Rattle.column.proofs.ColumnLaws.{cut, unnamed, with-name, has-constant, has-cells}
+use Rattle.column.specs.declared.Storage.the-variants.{Constant, Stored}
+use Rattle.column.specs.Storages.{storageOf, inRecord, inRow, constantAt, cellIn}
+use Rattle.column.specs.Columns.{columnOf, columnFrom, columnAt}
+use Rattle.column.proofs.ColumnLaws.{cut, unnamed, with-name}
 use Rattle.table.specs.declared.Walk.{Walk}
 use Rattle.table.specs.declared.Walk.the-variants.{Done, Stopped}
 use Rattle.table.specs.LastZero.{isAt}
@@ -43,40 +50,65 @@ module _ (b : List ℕ) (place : ℕ) (w : Walk) where
 
 -- ---- a value that is neither text nor data
 
-pub plain : (k : ℕ) (b : List ℕ) (p s d : ℕ) (w : Walk) → (k ≡ 10 → ⊥) → (k ≡ 11 → ⊥) → afterCell w (valueAt (kindOf k) b p s d) ≡ w
-unfolding valueAt
-plain zero b p s d w f g = refl
-plain (suc zero) b p s d w f g = refl
-plain (suc (suc zero)) b p s d w f g = refl
-plain (suc (suc (suc zero))) b p s d w f g = refl
-plain (suc (suc (suc (suc zero)))) b p s d w f g = refl
-plain (suc (suc (suc (suc (suc zero))))) b p s d w f g = refl
-plain (suc (suc (suc (suc (suc (suc zero)))))) b p s d w f g = refl
-plain (suc (suc (suc (suc (suc (suc (suc zero))))))) b p s d w f g = refl
-plain (suc (suc (suc (suc (suc (suc (suc (suc zero)))))))) b p s d w f g = refl
-plain (suc (suc (suc (suc (suc (suc (suc (suc (suc zero))))))))) b p s d w f g = refl
-plain (suc (suc (suc (suc (suc (suc (suc (suc (suc (suc zero)))))))))) b p s d w f g = absurd (f refl)
-plain (suc (suc (suc (suc (suc (suc (suc (suc (suc (suc (suc zero))))))))))) b p s d w f g = absurd (g refl)
-plain (suc (suc (suc (suc (suc (suc (suc (suc (suc (suc (suc (suc zero)))))))))))) b p s d w f g = refl
-plain (suc (suc (suc (suc (suc (suc (suc (suc (suc (suc (suc (suc (suc zero))))))))))))) b p s d w f g = refl
-plain (suc (suc (suc (suc (suc (suc (suc (suc (suc (suc (suc (suc (suc (suc zero)))))))))))))) b p s d w f g = refl
-plain (suc (suc (suc (suc (suc (suc (suc (suc (suc (suc (suc (suc (suc (suc (suc zero))))))))))))))) b p s d w f g = refl
-plain (suc (suc (suc (suc (suc (suc (suc (suc (suc (suc (suc (suc (suc (suc (suc (suc k)))))))))))))))) b p s d w f g = refl
+abbrev passes : CellAnswer → Bool
+passes (Got c) = true
+passes (Refused cause) = false
+
+passed : (x : CellAnswer) (w : Walk) → T (passes x) → afterCell w x ≡ w
+passed (Got c) w t = refl
+passed (Refused cause) w t = absurd t
+
+-- a type is 10 or 11, or a value of its kind passes: one test over the table of kinds, which antt computes
+module _ (b : List ℕ) (p : ℕ) (l : Layout) where
+  pointed : ℕ → Kind → Bool
+  pointed k x = cond (eqb k 10) true (cond (eqb k 11) true (passes (valueAt x b p l)))
+
+  all-pointed : T (every pointed 0 kinds)
+  unfolding pointed valueAt
+  all-pointed = tt
+
+  pub plain : (k : ℕ) (w : Walk) → (k ≡ 10 → ⊥) → (k ≡ 11 → ⊥) → afterCell w (valueAt (kindOf k) b p l) ≡ w
+  unfolding pointed valueAt
+  plain k w f g = passed (valueAt (kindOf k) b p l) w (go (ltb k 16) refl)
+    where
+      go : (t : Bool) → ltb k 16 ≡ t → T (passes (valueAt (kindOf k) b p l))
+      go true e = rw (ne-eqb k 10 f, ne-eqb k 11 g) at (entry pointed unknown kinds all-pointed k (ltb-true k 16 e))
+      go false e = rw (List·getD-eq-default kinds unknown (ltb-false k 16 e)) tt
 
 -- ---- a cell
 
-module _ (b : List ℕ) (k p s d : ℕ) (w : Walk) where
-  pub cell-unknown : widthOf k ≡ 0 → Stopped (UnknownType k) ≡ afterCell w (cellAt b k p s d)
+module _ (b : List ℕ) (k p : ℕ) (l : Layout) (w : Walk) where
+  pub cell-unknown : widthOf k ≡ 0 → Stopped (UnknownType k) ≡ afterCell w (cellAt b k p l)
   unfolding cellAt
   cell-unknown e = rw (eq-eqb (widthOf k) 0 e)
 
-  pub cell-cut : (widthOf k ≡ 0 → ⊥) → length b < p + widthOf k → Stopped RanOut ≡ afterCell w (cellAt b k p s d)
+  pub cell-cut : (widthOf k ≡ 0 → ⊥) → length b < p + widthOf k → Stopped RanOut ≡ afterCell w (cellAt b k p l)
   unfolding cellAt
   cell-cut f h = rw (ne-eqb (widthOf k) 0 f, lt-leb (p + widthOf k) (length b) h)
 
-  pub cell-there : (widthOf k ≡ 0 → ⊥) → p + widthOf k ≤ length b → afterCell w (valueAt (kindOf k) b p s d) ≡ afterCell w (cellAt b k p s d)
+  pub cell-there : (widthOf k ≡ 0 → ⊥) → p + widthOf k ≤ length b → afterCell w (valueAt (kindOf k) b p l) ≡ afterCell w (cellAt b k p l)
   unfolding cellAt
   cell-there f h = rw (ne-eqb (widthOf k) 0 f, le-leb (p + widthOf k) (length b) h)
+
+-- ---- what follows a column's name, and its cell in a row, by its storage: k is the type in the type byte x
+
+module _ (b : List ℕ) (x k p : ℕ) (l : Layout) (low : k ≡ x % 16) where
+  pub constant-follows : storageOf x ≡ Constant
+      → afterCell (Done (p + 5 + widthOf k)) (cellAt b k (p + 5) l) ≡ afterCell (Done (p + inRecord x)) (constantAt b (storageOf x) (x % 16) (p + 5) l)
+  constant-follows e =
+      let sum : p + 5 + widthOf (x % 16) ≡ p + (5 + widthOf (x % 16)) = omega arith in
+      rw (low, e, sum)
+
+  pub stored-in-row : storageOf x ≡ Stored
+      → afterCell (Done (p + widthOf k)) (cellAt b k p l) ≡ afterCell (Done (p + inRow x)) (cellIn b (storageOf x) Nothing (x % 16) p l)
+  stored-in-row e = rw (low, e)
+
+module _ (b : List ℕ) (x p : ℕ) (l : Layout) where
+  pub nothing-follows : storageOf x ≡ Stored → Done (p + 5) ≡ afterCell (Done (p + inRecord x)) (constantAt b (storageOf x) (x % 16) (p + 5) l)
+  nothing-follows e = rw e
+
+  pub nothing-in-row : storageOf x ≡ Constant → Done p ≡ afterCell (Done (p + inRow x)) (cellIn b (storageOf x) Nothing (x % 16) p l)
+  nothing-in-row e = rw (e, add-zero p)
 
 -- ---- what a check's answer says of the cell and of the column
 
@@ -102,34 +134,30 @@ column-stopped (NoColumn why) cause e k = e
 abbrev done : ℕ → Walk
 done m = Done m
 
-constant-to : (name kind next : ℕ) (x : CellAnswer) → afterColumn done (constantColumn name kind next x) ≡ afterCell (Done next) x
-constant-to name kind next (Got c) = refl
-constant-to name kind next (Refused why) = refl
+held-to : (name tag next : ℕ) (x : CellAnswer) → afterCell (Done next) x ≡ afterColumn done (columnOf name tag next x)
+held-to name tag next (Got c) = refl
+held-to name tag next (Refused why) = refl
 
-module _ (b : List ℕ) (p s d : ℕ) where
-  pub column-cut : length b < p + 5 → Stopped RanOut ≡ afterColumn done (columnAt b p s d)
-  column-cut h = ap (afterColumn done) (cut b p s d h)
+module _ (b : List ℕ) (p : ℕ) (l : Layout) where
+  pub column-cut : length b < p + 5 → Stopped RanOut ≡ afterColumn done (columnAt b p l)
+  column-cut h = ap (afterColumn done) (cut b p l h)
 
   -- x is the type byte and n the name offset, as they were read
   module _ (x n : ℕ) (room : p + 5 ≤ length b) (tag : x ≡ at b p) (read : n ≡ be32 b (p + 1)) where
-    no-name : (e : Ending) → endOf b (s + n) ≡ e → isAt e ≡ false → Stopped RanOut ≡ afterColumn done (columnAt b p s d)
+    no-name : (e : Ending) → endOf b (l .strings + n) ≡ e → isAt e ≡ false → Stopped RanOut ≡ afterColumn done (columnAt b p l)
     no-name (At z) f t = let g : true ≡ false = t in cc
-    no-name Endless f t = ap (afterColumn done) (unnamed b p s d n room read f)
+    no-name Endless f t = ap (afterColumn done) (unnamed b p l n room read f)
 
-    named-so : (e : Ending) → endOf b (s + n) ≡ e → isAt e ≡ true → columnFrom b p (s + n) s d ≡ columnAt b p s d
-    named-so (At z) f t = with-name b p s d n room read z f
+    named-so : (e : Ending) → endOf b (l .strings + n) ≡ e → isAt e ≡ true → columnFrom b p (l .strings + n) l ≡ columnAt b p l
+    named-so (At z) f t = with-name b p l n room read z f
     named-so Endless f t = let g : false ≡ true = t in cc
 
-    pub column-unnamed : isAt (endOf b (s + n)) ≡ false → Stopped RanOut ≡ afterColumn done (columnAt b p s d)
-    column-unnamed t = no-name (endOf b (s + n)) refl t
+    pub column-unnamed : isAt (endOf b (l .strings + n)) ≡ false → Stopped RanOut ≡ afterColumn done (columnAt b p l)
+    column-unnamed t = no-name (endOf b (l .strings + n)) refl t
 
-    pub column-constant : isAt (endOf b (s + n)) ≡ true → isConstant x ≡ true
-        → afterCell (Done (p + 5 + widthOf (x % 16))) (cellAt b (x % 16) (p + 5) s d) ≡ afterColumn done (columnAt b p s d)
-    column-constant t c =
-        sym (constant-to (s + n) (x % 16) (p + 5 + widthOf (x % 16)) (cellAt b (x % 16) (p + 5) s d))
-        ∙ ap (afterColumn done)
-        (has-constant b p (s + n) s d x tag (widthOf (x % 16)) (cellAt b (x % 16) (p + 5) s d) c refl refl
-        ∙ named-so (endOf b (s + n)) refl t)
-
-    pub column-stored : isAt (endOf b (s + n)) ≡ true → isConstant x ≡ false → Done (p + 5) ≡ afterColumn done (columnAt b p s d)
-    column-stored t c = ap (afterColumn done) (has-cells b p (s + n) s d x tag c ∙ named-so (endOf b (s + n)) refl t)
+    pub column-named : isAt (endOf b (l .strings + n)) ≡ true
+        → afterCell (Done (p + inRecord x)) (constantAt b (storageOf x) (x % 16) (p + 5) l) ≡ afterColumn done (columnAt b p l)
+    unfolding columnFrom
+    column-named t =
+        rw tag (held-to (l .strings + n) (at b p) (p + inRecord (at b p)) (constantAt b (storageOf (at b p)) (at b p % 16) (p + 5) l))
+        ∙ ap (afterColumn done) (named-so (endOf b (l .strings + n)) refl t)

@@ -1,10 +1,11 @@
--- The promises of specs/Promises.antt, each under its name: a table is refused before it breaks one. Assumes nothing.
+-- The promise of specs/Promises.antt, under its name: a layout that breaks it is refused. Assumes nothing.
 use native.Mathlib.Omega.{arith}
 use lib.ListN.{drop, length-drop}
+use Rattle.layout.proofs.LayoutLaws.{sound}
 use Rattle.table.specs.Promises as promised
-use Rattle.table.proofs.TableLaws.{sound}
+use Rattle.table.proofs.TableLaws.{laid-out}
 
 pub AcceptedLiesWithin : promised.AcceptedLiesWithin
-AcceptedLiesWithin bytes place columns rows e =
-    let s = sound place (drop place bytes) columns rows e in
-    (s .0 .0, s .0 .1, s .1 .0, omega (arith, s .1 .0, s .1 .1, length-drop place bytes))
+AcceptedLiesWithin bytes place l e =
+    let s = sound (drop place bytes) l (laid-out place (drop place bytes) l e) in
+    (s .0, s .1, s .2, omega (arith, s .3, length-drop place bytes))

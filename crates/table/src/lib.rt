@@ -4,16 +4,22 @@
 // A text is fine where a zero byte stands at or after its start in the body. With `ends`, one past the body's last zero,
 // that is one comparison, so the walk searches no text and costs a little for each column and each cell.
 ghost use mathlib.Core.Path.{_≡_};
-ghost use Prim.Native.Nat.{_+_, _≤_};
+ghost use Prim.Native.Nat.{_+_, _%_, _≤_};
 ghost use lib.ListN.{length};
+ghost use Rattle.layout.specs.Layouts.{bodyOf};
+ghost use Rattle.cell.specs.declared.Cell.the-variants.{Nothing};
 ghost use Rattle.cell.specs.Types.{kindOf, widthOf};
 ghost use Rattle.cell.specs.Parts.{endOf, textAt, dataAt};
 ghost use Rattle.cell.specs.Cells.{valueAt, cellAt};
+ghost use Rattle.column.specs.Storages.{storageOf, inRecord, inRow, constantAt, cellIn};
 ghost use Rattle.column.specs.Columns.{columnAt};
-ghost use Rattle.table.specs.Walks.{afterCell, afterColumn, columnsFrom, rowFrom, rowsFrom, rowsAt, walkOf};
+ghost use Rattle.table.specs.Walks.{afterCell, afterColumn, columnsFrom, rowFrom, rowsFrom, walkOf};
 ghost use Rattle.table.specs.LastZero.{isAt, zerosEnd};
-ghost use Rattle.table.specs.Tables.{tableOf, tableAt};
+ghost use Rattle.table.specs.Tables.{tableTo, tableOf, tableAt};
 use cell::CellAnswer;
+use column::Storage;
+use layout::Layout;
+use layout::LayoutAnswer;
 use refusal::Cause;
 use refusal::Refusal;
 
@@ -23,23 +29,11 @@ enum Walk {
     Stopped(Cause),
 }
 
-// What a table gives when it is read alone.
+// What a table gives when it is read alone: its layout, of which columns and rows are the counts.
 pub enum TableAnswer {
-    Table { columns: usize, rows: usize },
+    Table(Layout),
     NoTable(Refusal),
 }
-
-// The body starts after the header bytes.
-pub const HEADER: usize = 32;
-
-// A table with more columns is refused.
-const MOST_COLUMNS: usize = 64;
-
-// A table with more rows is refused.
-const MOST_ROWS: usize = 256;
-
-// `@UTF`.
-const SIGNATURE: usize = 0x40555446;
 
 // One past the last zero byte, or 0 where there is none.
 fn zeros_end(body: &[u8]) -> usize
@@ -60,10 +54,10 @@ fn has_end(body: &[u8], ends: usize, place: usize) -> bool
     requires { ⌜ ends ≡ zerosEnd (now body) ⌝ }
     ensures { λ r. ⌜ r ≡ isAt (endOf (now (body .entry)) place) ⌝ }
 {
-    if place < cell::BODY {
+    if place < layout::BODY {
         return false;
     }
-    place - cell::BODY < ends
+    place - layout::BODY < ends
 }
 
 // The check of a text: on to `next`, or why not.
@@ -88,28 +82,20 @@ fn check_data(body: &[u8], place: usize, size: usize, next: usize) -> Walk
 }
 
 // The check of a value whose bytes stand at a body byte: on to `next`, or why not.
-fn check_value(
-    body: &[u8],
-    ends: usize,
-    kind: u8,
-    at: usize,
-    next: usize,
-    strings: u32,
-    blobs: u32,
-) -> Walk
+fn check_value(body: &[u8], ends: usize, kind: u8, at: usize, next: usize, layout: Layout) -> Walk
     requires { ⌜ (at + widthOf kind ≤ length (now body)) × (ends ≡ zerosEnd (now body)) ⌝ }
-    ensures { λ r. ⌜ r ≡ afterCell (Walk.Done next) (valueAt (kindOf kind) (now (body .entry)) at strings blobs) ⌝ }
+    ensures { λ r. ⌜ r ≡ afterCell (Walk.Done next) (valueAt (kindOf kind) (now (body .entry)) at layout) ⌝ }
 {
     match kind {
         10 => check_text(
             body,
             ends,
-            (strings as usize) + word::read32(body, at),
+            (layout.strings as usize) + word::read32(body, at),
             next,
         ),
         11 => check_data(
             body,
-            (blobs as usize) + word::read32(body, at),
+            (layout.blobs as usize) + word::read32(body, at),
             word::read32(body, at + 4),
             next,
         ),
@@ -118,9 +104,9 @@ fn check_value(
 }
 
 // The check of a cell: on to where it ends, or why not.
-fn check_cell(body: &[u8], ends: usize, kind: u8, at: usize, strings: u32, blobs: u32) -> Walk
+fn check_cell(body: &[u8], ends: usize, kind: u8, at: usize, layout: Layout) -> Walk
     requires { ⌜ ends ≡ zerosEnd (now body) ⌝ }
-    ensures { λ r. ⌜ r ≡ afterCell (Walk.Done (at + widthOf kind)) (cellAt (now (body .entry)) kind at strings blobs) ⌝ }
+    ensures { λ r. ⌜ r ≡ afterCell (Walk.Done (at + widthOf kind)) (cellAt (now (body .entry)) kind at layout) ⌝ }
 {
     let width = cell::width_of(kind);
     if width == 0 {
@@ -129,38 +115,51 @@ fn check_cell(body: &[u8], ends: usize, kind: u8, at: usize, strings: u32, blobs
     if word::left_from(body, at) < width {
         return Walk::Stopped(Cause::RanOut);
     }
-    check_value(body, ends, kind, at, at + width, strings, blobs)
+    check_value(body, ends, kind, at, at + width, layout)
+}
+
+// The check of what follows a column's name offset: on to where its record ends, or why not.
+fn check_constant(body: &[u8], ends: usize, tag: usize, at: usize, layout: Layout) -> Walk
+    requires { ⌜ (at + 5 ≤ length (now body)) × (ends ≡ zerosEnd (now body)) ⌝ }
+    ensures { λ r. ⌜ r ≡ afterCell (Walk.Done (at + inRecord tag)) (constantAt (now (body .entry)) (storageOf tag) (tag % 16) (at + 5) layout) ⌝ }
+{
+    match column::storage_of(tag) {
+        Storage::Constant => check_cell(
+            body,
+            ends,
+            column::kind_of(tag),
+            at + column::RECORD,
+            layout,
+        ),
+        Storage::Stored => Walk::Done(at + column::RECORD),
+    }
 }
 
 // The check of a column: on to where its record ends, or why not.
-fn check_column(body: &[u8], ends: usize, at: usize, strings: u32, blobs: u32) -> Walk
+fn check_column(body: &[u8], ends: usize, at: usize, layout: Layout) -> Walk
     requires { ⌜ ends ≡ zerosEnd (now body) ⌝ }
-    ensures { λ r. ⌜ r ≡ afterColumn (λ n. Walk.Done n) (columnAt (now (body .entry)) at strings blobs) ⌝ }
+    ensures { λ r. ⌜ r ≡ afterColumn (λ n. Walk.Done n) (columnAt (now (body .entry)) at layout) ⌝ }
 {
     if word::left_from(body, at) < column::RECORD {
         return Walk::Stopped(Cause::RanOut);
     }
     let tag = word::read8(body, at);
-    let name = (strings as usize) + word::read32(body, at + 1);
-    let after = at + column::RECORD;
+    let name = (layout.strings as usize) + word::read32(body, at + 1);
     if has_end(body, ends, name) {
-        if column::is_constant(tag) {
-            return check_cell(body, ends, (tag % 16) as u8, after, strings, blobs);
-        }
-        return Walk::Done(after);
+        return check_constant(body, ends, tag, at, layout);
     }
     Walk::Stopped(Cause::RanOut)
 }
 
 // All columns: where their records end, or the first refusal.
-fn walk_columns(body: &[u8], ends: usize, columns: usize, strings: u32, blobs: u32) -> Walk
+fn walk_columns(body: &[u8], ends: usize, layout: Layout) -> Walk
     requires { ⌜ ends ≡ zerosEnd (now body) ⌝ }
-    ensures { λ r. ⌜ r ≡ columnsFrom (now (body .entry)) strings blobs columns 0 ⌝ }
+    ensures { λ r. ⌜ r ≡ columnsFrom (now (body .entry)) layout (layout .columns) 0 ⌝ }
 {
-    let mut left = columns;
+    let mut left = layout.columns;
     let mut at = 0;
     while 0 < left {
-        match check_column(body, ends, at, strings, blobs) {
+        match check_column(body, ends, at, layout) {
             Walk::Done(next) => {
                 at = next;
             }
@@ -173,53 +172,50 @@ fn walk_columns(body: &[u8], ends: usize, columns: usize, strings: u32, blobs: u
     Walk::Done(at)
 }
 
-// The cells of one row, from a body byte on.
-fn walk_row(body: &[u8], ends: usize, columns: usize, from: usize, strings: u32, blobs: u32) -> Walk
-    requires { ⌜ (columns ≤ 64) × (ends ≡ zerosEnd (now body)) ⌝ }
-    ensures { λ r. ⌜ r ≡ rowFrom (now (body .entry)) strings blobs columns 0 from ⌝ }
+// The check of a column's cell in a row: on to where the next column's stands, or why not. A constant was checked with its column.
+fn check_in_row(body: &[u8], ends: usize, tag: usize, at: usize, layout: Layout) -> Walk
+    requires { ⌜ ends ≡ zerosEnd (now body) ⌝ }
+    ensures { λ r. ⌜ r ≡ afterCell (Walk.Done (at + inRow tag)) (cellIn (now (body .entry)) (storageOf tag) Nothing (tag % 16) at layout) ⌝ }
 {
-    let mut left = columns;
+    match column::storage_of(tag) {
+        Storage::Constant => Walk::Done(at),
+        Storage::Stored => check_cell(body, ends, column::kind_of(tag), at, layout),
+    }
+}
+
+// The cells of one row, from a body byte on.
+fn walk_row(body: &[u8], ends: usize, from: usize, layout: Layout) -> Walk
+    requires { ⌜ (layout .columns ≤ 64) × (ends ≡ zerosEnd (now body)) ⌝ }
+    ensures { λ r. ⌜ r ≡ rowFrom (now (body .entry)) layout (layout .columns) 0 from ⌝ }
+{
+    let mut left = layout.columns;
     let mut entry = 0;
     let mut at = from;
     while 0 < left {
         let tag = word::read8(body, entry);
-        let kind = (tag % 16) as u8;
-        let width = cell::width_of(kind);
-        if column::is_constant(tag) {
-            entry = entry + column::RECORD + width;
-        } else {
-            match check_cell(body, ends, kind, at, strings, blobs) {
-                Walk::Done(next) => {
-                    entry = entry + column::RECORD;
-                    at = next;
-                }
-                Walk::Stopped(cause) => {
-                    return Walk::Stopped(cause);
-                }
+        match check_in_row(body, ends, tag, at, layout) {
+            Walk::Done(next) => {
+                at = next;
+            }
+            Walk::Stopped(cause) => {
+                return Walk::Stopped(cause);
             }
         }
+        entry = entry + column::in_record(tag);
         left -= 1;
     }
     Walk::Done(at)
 }
 
-// All rows, from a body byte on.
-fn walk_rows(
-    body: &[u8],
-    ends: usize,
-    columns: usize,
-    rows: usize,
-    from: usize,
-    strings: u32,
-    blobs: u32,
-) -> Walk
-    requires { ⌜ (columns ≤ 64) × (ends ≡ zerosEnd (now body)) ⌝ }
-    ensures { λ r. ⌜ r ≡ rowsFrom (now (body .entry)) strings blobs columns rows from ⌝ }
+// All rows.
+fn walk_rows(body: &[u8], ends: usize, layout: Layout) -> Walk
+    requires { ⌜ (layout .columns ≤ 64) × (ends ≡ zerosEnd (now body)) ⌝ }
+    ensures { λ r. ⌜ r ≡ rowsFrom (now (body .entry)) layout (layout .rows) (layout .start) ⌝ }
 {
-    let mut left = rows;
-    let mut at = from;
+    let mut left = layout.rows;
+    let mut at = layout.start as usize;
     while 0 < left {
-        match walk_row(body, ends, columns, at, strings, blobs) {
+        match walk_row(body, ends, at, layout) {
             Walk::Done(next) => {
                 at = next;
             }
@@ -232,34 +228,14 @@ fn walk_rows(
     Walk::Done(at)
 }
 
-// Where the rows start in the body. Before it there is nothing to read, as there is nothing past its end.
-pub fn rows_at(body: &[u8], from: usize) -> usize
-    ensures { λ r. ⌜ r ≡ rowsAt (now (body .entry)) from ⌝ }
-{
-    if from < cell::BODY {
-        return body.len();
-    }
-    from - cell::BODY
-}
-
 // All columns, then all rows.
-fn walk_table(
-    body: &[u8],
-    columns: usize,
-    rows: usize,
-    from: usize,
-    strings: u32,
-    blobs: u32,
-) -> Walk
-    requires { ⌜ columns ≤ 64 ⌝ }
-    ensures { λ r. ⌜ r ≡ walkOf (now (body .entry)) strings blobs columns rows from ⌝ }
+fn walk_table(body: &[u8], layout: Layout) -> Walk
+    requires { ⌜ layout .columns ≤ 64 ⌝ }
+    ensures { λ r. ⌜ r ≡ walkOf (now (body .entry)) layout ⌝ }
 {
     let ends = zeros_end(body);
-    match walk_columns(body, ends, columns, strings, blobs) {
-        Walk::Done(_) => {
-            let start = rows_at(body, from);
-            walk_rows(body, ends, columns, rows, start, strings, blobs)
-        }
+    match walk_columns(body, ends, layout) {
+        Walk::Done(_) => walk_rows(body, ends, layout),
         Walk::Stopped(cause) => Walk::Stopped(cause),
     }
 }
@@ -271,45 +247,29 @@ fn refused(cause: Cause, place: usize) -> TableAnswer
     TableAnswer::NoTable(Refusal { cause, place })
 }
 
-// The table that a slice begins with; `place` is where that is.
-fn read_from(t: &[u8], place: usize) -> TableAnswer
-    ensures { λ r. ⌜ r ≡ tableOf place (now (t .entry)) ⌝ }
+// The table of a layout that a slice begins with: its columns and rows are checked.
+fn checked(table: &[u8], layout: Layout, place: usize) -> TableAnswer
+    requires { ⌜ (layout .columns ≤ 64) × (32 + layout .size ≤ length (now table)) ⌝ }
+    ensures { λ r. ⌜ r ≡ tableTo place layout (walkOf (bodyOf (now (table .entry)) layout) layout) ⌝ }
 {
-    if t.len() < 4 {
-        return refused(Cause::RanOut, place);
-    }
-    if word::read32(t, 0) != SIGNATURE {
-        return refused(Cause::NoTable, place);
-    }
-    if t.len() < HEADER {
-        return refused(Cause::RanOut, place);
-    }
-    let size = word::read32(t, 4);
-    if size < cell::BODY {
-        return refused(Cause::TooSmall, place);
-    }
-    let end = size + 8;
-    if t.len() < end {
-        return refused(Cause::RanOut, place);
-    }
-    let columns = word::read16(t, 24);
-    if MOST_COLUMNS < columns {
-        return refused(Cause::TooMany, place);
-    }
-    let rows = word::read32(t, 28);
-    if MOST_ROWS < rows {
-        return refused(Cause::TooMany, place);
-    }
-    let from = word::read16(t, 10);
-    let strings = word::read32(t, 12) as u32;
-    let blobs = word::read32(t, 16) as u32;
-    match walk_table(&t[HEADER..end], columns, rows, from, strings, blobs) {
-        Walk::Done(_) => TableAnswer::Table { columns, rows },
+    let end = layout::HEADER + layout.size;
+    match walk_table(&table[layout::HEADER..end], layout) {
+        Walk::Done(_) => TableAnswer::Table(layout),
         Walk::Stopped(cause) => refused(cause, place),
     }
 }
 
-// The table at a place of a slice: its counts, or why it is refused. A place past the end has no bytes.
+// The table that a slice begins with; `place` is where that is.
+fn read_from(table: &[u8], place: usize) -> TableAnswer
+    ensures { λ r. ⌜ r ≡ tableOf place (now (table .entry)) ⌝ }
+{
+    match layout::read_layout(table) {
+        LayoutAnswer::Laid(layout) => checked(table, layout, place),
+        LayoutAnswer::NoLayout(cause) => refused(cause, place),
+    }
+}
+
+// The table at a place of a slice: its layout, or why it is refused. A place past the end has no bytes.
 pub fn read_table(bytes: &[u8], place: usize) -> TableAnswer
     ensures { λ r. ⌜ r ≡ tableAt (now (bytes .entry)) place ⌝ }
 {

@@ -51,6 +51,9 @@ read32-requires-3 c κs = search needs
 float-of-requires : tie.Need-float-of-requires
 float-of-requires c κs = search needs
 
+cast-text-at : tie.Need-cast-text-at
+cast-text-at c = search needs
+
 read32-requires-4 : tie.Need-read32-requires-4
 read32-requires-4 c κs = search needs
 
@@ -60,6 +63,9 @@ add-text-at c = search needs
 text-at-requires : tie.Need-text-at-requires
 text-at-requires c κs = search needs
 
+cast-data-at : tie.Need-cast-data-at
+cast-data-at c = search needs
+
 read32-requires-5 : tie.Need-read32-requires-5
 read32-requires-5 c κs = search needs
 
@@ -67,7 +73,7 @@ add-data-at : tie.Need-add-data-at
 add-data-at c = search needs
 
 add-read32 : tie.Need-add-read32
-add-read32 c = omega (arith, ap widthOf (c .before .match .keys10))
+add-read32 c = omega (arith, ap widthOf (c .before .before .match .keys10))
 
 read32-requires-6 : tie.Need-read32-requires-6
 read32-requires-6 c κs = search needs
@@ -119,17 +125,17 @@ returns-8 c = rw (c .before .before .match .keys8) (ap Got (c .float-of .ensures
 returns-9 : tie.Need-returns-9
 unfolding valueAt
 returns-9 c =
-    let a = c .before .before .before .before .args in
-    rw (c .before .before .match .keys9)
-    (c .text-at .ensures ∙ ap (λ (n : ℕ). textAt (a .body .now) (a .strings + n)) (c .before .read324 .ensures .0))
+    let a = c .before .before .before .before .before .args in
+    rw (c .before .before .before .match .keys9)
+    (c .text-at .ensures ∙ ap (λ (n : ℕ). textAt (a .body .now) (a .layout .strings + n)) (c .before .read324 .ensures .0))
 
 returns-10 : tie.Need-returns-10
 unfolding valueAt
 returns-10 c =
-    let a = c .before .before .before .before .before .args in
-    rw (c .before .before .before .match .keys10)
+    let a = c .before .before .before .before .before .before .args in
+    rw (c .before .before .before .before .match .keys10)
     (c .data-at .ensures
-    ∙ ap₂ (λ (m n : ℕ). dataAt (a .body .now) (a .blobs + m) n) (c .before .before .read325 .ensures .0) (c .before .read326 .ensures .0))
+    ∙ ap₂ (λ (m n : ℕ). dataAt (a .body .now) (a .layout .blobs + m) n) (c .before .before .read325 .ensures .0) (c .before .read326 .ensures .0))
 
 returns-11 : tie.Need-returns-11
 unfolding valueAt
@@ -137,7 +143,7 @@ returns-11 c =
     let a = c .before .before .args in
     let r = c .match .rest in
     sym
-    (ap (λ (k : Kind). valueAt k (a .body .now) (a .at) (a .strings) (a .blobs))
+    (ap (λ (k : Kind). valueAt k (a .body .now) (a .at) (a .layout))
     (other (a .kind) (r .0 .0 .0 .0 .0 .0 .0 .0 .0 .1) (r .0 .0 .0 .0 .0 .0 .0 .0 .1) (r .0 .0 .0 .0 .0 .0 .0 .1) (r .0 .0 .0 .0 .0 .0 .1)
     (r .0 .0 .0 .0 .0 .1) (r .0 .0 .0 .0 .1) (r .0 .0 .0 .1) (r .0 .0 .1) (r .0 .1) (r .1)))
 
@@ -157,9 +163,11 @@ value-at-spec =
     read64-requires
     read32-requires-3
     float-of-requires
+    cast-text-at
     read32-requires-4
     add-text-at
     text-at-requires
+    cast-data-at
     read32-requires-5
     add-data-at
     add-read32

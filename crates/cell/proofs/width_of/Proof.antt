@@ -8,7 +8,7 @@ use borrow.Author.Needs.{needs}
 use lib.Dec.{eqb, eqb→eq}
 use lib.ListN.{getD, List·getD-eq-default}
 use Rattle.cell.specs.Types.{widthOf, width, kinds, unknown}
-use Rattle.cell.proofs.Entries.{at}
+use Rattle.cell.proofs.Entries.{entry}
 use Rattle.cell.proofs.width_of.Statement.{statement}
 use Rattle.cell.proofs.width_of.Tie as tie
 
@@ -28,7 +28,7 @@ returns : tie.Need-returns
 unfolding widths right
 returns c =
     let k = c .before .before .args .kind in
-    (c .wide .ensures .0 ∙ eqb→eq (getD widths k 0) (widthOf k) (at right widths tt k (search needs)), c .wide .ensures .1)
+    (c .wide .ensures .0 ∙ eqb→eq (getD widths k 0) (widthOf k) (entry right 0 widths tt k (search needs)), c .wide .ensures .1)
 
 returns-2 : tie.Need-returns-2
 returns-2 c =

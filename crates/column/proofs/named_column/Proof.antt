@@ -1,60 +1,69 @@
--- `column::named_column` meets its contract: the type byte tells whether a constant follows. Assumes nothing.
-use mathlib.Core.Path.{sym, _∙_}
+-- `column::named_column` meets its contract: the column is what its type byte says, with the constant that follows. Assumes nothing.
 use borrow.Author.Needs.{needs}
-use Rattle.column.proofs.ColumnLaws.{has-constant, has-cells}
+use mathlib.Core.Path.{sym, _∙_}
+use Rattle.column.proofs.ColumnLaws.{held, unheld}
 use Rattle.column.proofs.named_column.Statement.{statement}
 use Rattle.column.proofs.named_column.Tie as tie
 
 read8-requires : tie.Need-read8-requires
 read8-requires c κs = search needs
 
-cast-kind : tie.Need-cast-kind
-cast-kind c = search needs
+storage-of-requires : tie.Need-storage-of-requires
+storage-of-requires c κs = search needs
 
-add-after : tie.Need-add-after
-add-after c = search needs
+kind-of-requires : tie.Need-kind-of-requires
+kind-of-requires c κs = search needs
 
-is-constant-requires : tie.Need-is-constant-requires
-is-constant-requires c κs = search needs
+add-constant-at : tie.Need-add-constant-at
+add-constant-at c = search needs
 
-width-of-requires : tie.Need-width-of-requires
-width-of-requires c κs = search needs
+constant-at-requires : tie.Need-constant-at-requires
+constant-at-requires c κs = search needs
 
-add-next : tie.Need-add-next
-add-next c = search needs
+enum-known-constant : tie.Need-enum-known-constant
+enum-known-constant c = search needs
 
-read-cell-requires : tie.Need-read-cell-requires
-read-cell-requires c κs = search needs
+in-record-requires : tie.Need-in-record-requires
+in-record-requires c κs = search needs
 
-constant-column-requires : tie.Need-constant-column-requires
-constant-column-requires c κs = search needs
+add-t14 : tie.Need-add-t14
+add-t14 c = search needs
+
+enum-known-cause : tie.Need-enum-known-cause
+enum-known-cause c = search needs
 
 returns : tie.Need-returns
 returns c =
-    let i = c .before .before .before .before in
-    let a = i .before .before .before .args in
-    c .constant-column .ensures
-    ∙ has-constant (a .body .now) (a .at) (a .name) (a .strings) (a .blobs) (i .before .read8 .result) (i .before .read8 .ensures .0) (c .before .before .width-of .result) (c .before .read-cell .result)
-    (sym (i .is-constant .ensures) ∙ c .before .before .before .if1 .taken) (c .before .before .width-of .ensures .0) (c .before .read-cell .ensures)
+    let x = c .before .before .before .before in
+    let k = x .before in
+    let s = k .before in
+    let r = s .before in
+    let a = r .before .before .args in
+    held (a .body .now) (a .at) (a .name) (a .layout) (r .read8 .result) (s .storage-of .result) (k .kind-of .result) (r .read8 .ensures .0) (s .storage-of .ensures) (k .kind-of .ensures)
+    (c .in-record .result) _ (c .in-record .ensures .0) (sym (x .constant-at .ensures) ∙ c .before .before .constant .given .1)
 
 returns-2 : tie.Need-returns-2
 returns-2 c =
-    let i = c .before in
-    let a = i .before .before .before .args in
-    has-cells (a .body .now) (a .at) (a .name) (a .strings) (a .blobs) (i .before .read8 .result) (i .before .read8 .ensures .0)
-    (sym (i .is-constant .ensures) ∙ c .if1 .left)
+    let x = c .before .before .before in
+    let k = x .before in
+    let s = k .before in
+    let r = s .before in
+    let a = r .before .before .args in
+    unheld (a .body .now) (a .at) (a .name) (a .layout) (r .read8 .result) (s .storage-of .result) (k .kind-of .result) (r .read8 .ensures .0) (s .storage-of .ensures) (k .kind-of .ensures)
+    _ (sym (x .constant-at .ensures) ∙ c .before .cause .given .1)
 
 pub named-column-spec : {M : Type 1} → statement M
 named-column-spec =
     tie.close
     (tie.spec
     read8-requires
-    cast-kind
-    add-after
-    is-constant-requires
-    width-of-requires
-    add-next
-    read-cell-requires
-    constant-column-requires
+    storage-of-requires
+    kind-of-requires
+    add-constant-at
+    constant-at-requires
+    enum-known-constant
+    in-record-requires
+    add-t14
+    enum-known-cause
     returns
     returns-2)

@@ -1,7 +1,7 @@
 -- `column::read_column` meets its contract: each return is a case of `columnAt`. Assumes nothing.
+use borrow.Author.Needs.{needs}
 use mathlib.Core.Path.{sym, _∙_}
 use native.Mathlib.Omega.{arith}
-use borrow.Author.Needs.{needs}
 use Rattle.column.proofs.ColumnLaws.{cut, unnamed, with-name}
 use Rattle.column.proofs.read_column.Statement.{statement}
 use Rattle.column.proofs.read_column.Tie as tie
@@ -12,7 +12,10 @@ left-from-requires c κs = search needs
 returns : tie.Need-returns
 returns c =
     let a = c .before .before .before .args in
-    cut (a .body .now) (a .at) (a .strings) (a .blobs) (omega arith)
+    cut (a .body .now) (a .at) (a .layout) (omega arith)
+
+cast-name : tie.Need-cast-name
+cast-name c = search needs
 
 add-read32 : tie.Need-add-read32
 add-read32 c = search needs
@@ -38,16 +41,18 @@ enum-told-2 c = search needs
 returns-2 : tie.Need-returns-2
 returns-2 c =
     let e = c .before .before .before in
-    let a = e .before .before .before .before .before .args in
+    let n = e .before in
+    let a = n .before .before .before .before .before .args in
     c .named-column .ensures
-    ∙ with-name (a .body .now) (a .at) (a .strings) (a .blobs) (e .before .read32 .result) (omega arith) (e .before .read32 .ensures .0)
+    ∙ with-name (a .body .now) (a .at) (a .layout) (n .read32 .result) (omega arith) (n .read32 .ensures .0)
     (c .before .enum-told .given .0 .0) (sym (e .end-of .ensures) ∙ c .before .enum-told .given .1)
 
 returns-3 : tie.Need-returns-3
 returns-3 c =
     let e = c .before .before in
-    let a = e .before .before .before .before .before .args in
-    unnamed (a .body .now) (a .at) (a .strings) (a .blobs) (e .before .read32 .result) (omega arith) (e .before .read32 .ensures .0)
+    let n = e .before in
+    let a = n .before .before .before .before .before .args in
+    unnamed (a .body .now) (a .at) (a .layout) (n .read32 .result) (omega arith) (n .read32 .ensures .0)
     (sym (e .end-of .ensures) ∙ c .enum-told2 .given .1)
 
 pub read-column-spec : {M : Type 1} → statement M
@@ -56,6 +61,7 @@ read-column-spec =
     (tie.spec
     left-from-requires
     returns
+    cast-name
     add-read32
     read32-requires
     add-name

@@ -1,9 +1,9 @@
 -- `lookup::cell_past` meets its contract: past the body every place is as good as its end. Assumes nothing.
+use borrow.Author.Needs.{needs}
 use mathlib.Core.Path.{_∙_}
 use Prim.Native.Nat.{_+_}
 use native.Mathlib.Omega.{arith}
 use lib.ListN.{length}
-use borrow.Author.Needs.{needs}
 use Rattle.lookup.proofs.CellLaws.{past-the-body}
 use Rattle.lookup.proofs.cell_past.Statement.{statement}
 use Rattle.lookup.proofs.cell_past.Tie as tie
@@ -18,7 +18,7 @@ returns : tie.Need-returns
 returns c =
     let a = c .before .before .before .before .args in
     c .read-cell .ensures
-    ∙ past-the-body (a .body .now) (a .kind) (a .strings) (a .blobs) (length (a .body .now)) (a .at + a .offset) (omega arith) (omega arith)
+    ∙ past-the-body (a .body .now) (a .kind) (a .layout) (length (a .body .now)) (a .at + a .offset) (omega arith) (omega arith)
 
 add-read-cell : tie.Need-add-read-cell
 add-read-cell c = search needs

@@ -1,25 +1,55 @@
--- `lookup::last_cell_of` meets its contract, by those of the row and of the cell. Assumes nothing.
-use mathlib.Core.Path.{ap, _∙_}
-use Prim.Native.Nat.{ℕ}
+-- `lookup::last_cell_of` meets its contract: a table that was read lies within the slice, and its last row is looked up. Assumes nothing.
 use borrow.Author.Needs.{needs}
-use Rattle.lookup.specs.Lookups.{cellOf, lastRow}
+use mathlib.Core.Path.{sym, ap, _∙_}
+use Prim.Native.Nat.{ℕ}
+use Rattle.table.proofs.Promises.{AcceptedLiesWithin}
+use Rattle.lookup.specs.Lookups.{cellFrom}
+use Rattle.lookup.proofs.LookupLaws.{no-last, last-in-table}
 use Rattle.lookup.proofs.last_cell_of.Statement.{statement}
 use Rattle.lookup.proofs.last_cell_of.Tie as tie
 
 read-table-requires : tie.Need-read-table-requires
 read-table-requires c κs = search needs
 
+enum-known-layout : tie.Need-enum-known-layout
+enum-known-layout c = search needs
+
 last-row-requires : tie.Need-last-row-requires
 last-row-requires c κs = search needs
 
-cell-of-requires : tie.Need-cell-of-requires
-cell-of-requires c κs = search needs
+row-cell-requires : tie.Need-row-cell-requires
+row-cell-requires c κs =
+    let k = c .before .before in
+    let r = k .before .before in
+    let a = r .before .before .before .args in
+    let w = AcceptedLiesWithin (a .bytes .now) (a .place) (k .layout .given .0 .0) (sym (r .read-table .ensures) ∙ k .layout .given .1) in
+    ((w .0, w .1), w .3)
+
+enum-known-refusal : tie.Need-enum-known-refusal
+enum-known-refusal c = search needs
 
 returns : tie.Need-returns
 returns c =
-    let a = c .before .before .before .before .before .args in
-    c .cell-of .ensures ∙ ap (λ (row : ℕ). cellOf (a .bytes .now) (a .place) (a .name .now) row) (c .before .last-row .ensures ∙ ap lastRow (c .before .before .read-table .ensures))
+    let k = c .before .before .before in
+    let r = k .before .before in
+    let a = r .before .before .before .args in
+    c .row-cell .ensures ∙ ap (λ (row : ℕ). cellFrom (a .bytes .now) (a .place) (a .name .now) row (k .layout .given .0 .0)) (c .before .last-row .ensures)
+    ∙ last-in-table (a .bytes .now) (a .place) (a .name .now) (k .layout .given .0 .0) (sym (r .read-table .ensures) ∙ k .layout .given .1)
+
+returns-2 : tie.Need-returns-2
+returns-2 c =
+    let r = c .before .before .before in
+    let a = r .before .before .before .args in
+    no-last (a .bytes .now) (a .place) (a .name .now) (c .before .refusal .given .0 .0) (sym (r .read-table .ensures) ∙ c .before .refusal .given .1)
 
 pub last-cell-of-spec : {M : Type 1} → statement M
 last-cell-of-spec =
-    tie.close (tie.spec read-table-requires last-row-requires cell-of-requires returns)
+    tie.close
+    (tie.spec
+    read-table-requires
+    enum-known-layout
+    last-row-requires
+    row-cell-requires
+    enum-known-refusal
+    returns
+    returns-2)

@@ -47,11 +47,19 @@ write-table-requires : tie.Need-write-table-requires
 write-table-requires c κs = search needs
 
 replay-queries-requires : tie.Need-replay-queries-requires
-replay-queries-requires c κs = let n = c .before .before .before .before .before .before .before .before .before .before .next-line .ensures .1 (c .before .before .before .before .before .before .before .before .before .before .before .before .pre) in omega (arith, n .0, n .1)
+replay-queries-requires c κs =
+    let decoded = c .before .before .before in
+    let told = decoded .before .before .before .before in
+    let start = told .before .before .before in
+    let n = start .next-line .ensures .1 (start .before .before .pre) in
+    omega (arith, n .0, n .1)
 
 returns-2 : tie.Need-returns-2
 returns-2 c =
-    let n = c .before .before .before .before .before .before .before .before .before .before .before .next-line .ensures .1 (c .before .before .before .before .before .before .before .before .before .before .before .before .before .pre) in
+    let decoded = c .before .before .before .before in
+    let told = decoded .before .before .before .before in
+    let start = told .before .before .before in
+    let n = start .next-line .ensures .1 (start .before .before .pre) in
     (omega (arith, n .0, c .replay-queries .ensures .0), c .replay-queries .ensures .1)
 
 pub replay-table-spec : {M : Type 1} → statement M

@@ -1,17 +1,17 @@
 -- `table::walk_columns` meets its contract: what is left of the walk has the answer of the whole walk. Assumes nothing.
+use borrow.Author.Needs.{needs}
 use mathlib.Core.Path.{_≡_, refl, sym, _∙_}
 use native.Mathlib.Omega.{arith}
-use borrow.Author.Needs.{needs}
 use Rattle.table.specs.Walks.{columnsFrom}
 use Rattle.table.proofs.WalkLaws.{columns-next, columns-stop, columns-end}
 use Rattle.table.proofs.walk_columns.Statement.{statement}
 use Rattle.table.proofs.walk_columns.Tie as tie
 
 abbrev Inv-loop : tie.InvT-loop
-Inv-loop body ends columns strings blobs left₀ at₀ left at = columnsFrom body strings blobs left at ≡ columnsFrom body strings blobs columns 0
+Inv-loop body ends layout left₀ at₀ left at = columnsFrom body layout left at ≡ columnsFrom body layout (layout .columns) 0
 
 abbrev μ-loop : tie.MeasureT-loop
-μ-loop body ends columns strings blobs left₀ at₀ left at = left
+μ-loop body ends layout left₀ at₀ left at = left
 
 loop-holds : tie.Need-loop-holds Inv-loop μ-loop
 loop-holds c = refl
@@ -30,7 +30,7 @@ returns c =
     let r = c .before .before .before in
     let l = r .before .before in
     let a = l .before .before .args in
-    sym (columns-stop (a .body .now) (a .strings) (a .blobs) (l .loop .left) (l .loop .at) (c .before .cause .given .0 .0) (omega arith)
+    sym (columns-stop (a .body .now) (a .layout) (l .loop .left) (l .loop .at) (c .before .cause .given .0 .0) (omega arith)
     (sym (r .check-column .ensures) ∙ c .before .cause .given .1))
     ∙ l .loop .inv
 
@@ -45,7 +45,7 @@ loop-again c =
     let r = c .before .before .before in
     let l = r .before .before in
     let a = l .before .before .args in
-    sym (columns-next (a .body .now) (a .strings) (a .blobs) (l .loop .left) (l .loop .at) (c .before .next .given .0 .0) (omega arith)
+    sym (columns-next (a .body .now) (a .layout) (l .loop .left) (l .loop .at) (c .before .next .given .0 .0) (omega arith)
     (sym (r .check-column .ensures) ∙ c .before .next .given .1))
     ∙ l .loop .inv
 
@@ -53,7 +53,7 @@ returns-2 : tie.Need-returns-2 Inv-loop μ-loop
 returns-2 c =
     let l = c .before in
     let a = l .before .before .args in
-    sym (columns-end (a .body .now) (a .strings) (a .blobs) (l .loop .left) (l .loop .at) (omega arith)) ∙ l .loop .inv
+    sym (columns-end (a .body .now) (a .layout) (l .loop .left) (l .loop .at) (omega arith)) ∙ l .loop .inv
 
 pub walk-columns-spec : {M : Type 1} → statement M
 walk-columns-spec =

@@ -1,7 +1,6 @@
--- `table::walk_table` meets its contract: the columns come first, then the rows from the row offset. Assumes nothing.
-use mathlib.Core.Path.{sym, ap, _∙_}
+-- `table::walk_table` meets its contract: the columns come first, then the rows. Assumes nothing.
 use borrow.Author.Needs.{needs}
-use Rattle.table.specs.Walks.{rowsFrom}
+use mathlib.Core.Path.{sym, _∙_}
 use Rattle.table.proofs.WalkLaws.{table-rows, table-stop}
 use Rattle.table.proofs.walk_table.Statement.{statement}
 use Rattle.table.proofs.walk_table.Tie as tie
@@ -15,9 +14,6 @@ walk-columns-requires c κs = search needs
 enum-told : tie.Need-enum-told
 enum-told c = search needs
 
-rows-at-requires : tie.Need-rows-at-requires
-rows-at-requires c κs = search needs
-
 walk-rows-requires : tie.Need-walk-rows-requires
 walk-rows-requires c κs = search needs
 
@@ -26,21 +22,15 @@ enum-known-cause c = search needs
 
 returns : tie.Need-returns
 returns c =
-    let e = c .before .before .before .before in
+    let e = c .before .before .before in
     let a = e .before .before .before .args in
-    c .walk-rows .ensures
-    ∙ ap (rowsFrom (a .body .now) (a .strings) (a .blobs) (a .columns) (a .rows)) (c .before .rows-at .ensures)
-    ∙ sym
-    (table-rows (a .body .now) (a .strings) (a .blobs) (a .columns) (a .rows) (a .from) (c .before .before .enum-told .given .0 .0)
-    (sym (e .walk-columns .ensures) ∙ c .before .before .enum-told .given .1))
+    c .walk-rows .ensures ∙ sym (table-rows (a .body .now) (a .layout) (c .before .enum-told .given .0 .0) (sym (e .walk-columns .ensures) ∙ c .before .enum-told .given .1))
 
 returns-2 : tie.Need-returns-2
 returns-2 c =
     let e = c .before .before .before in
     let a = e .before .before .before .args in
-    sym
-    (table-stop (a .body .now) (a .strings) (a .blobs) (a .columns) (a .rows) (a .from) (c .before .cause .given .0 .0)
-    (sym (e .walk-columns .ensures) ∙ c .before .cause .given .1))
+    sym (table-stop (a .body .now) (a .layout) (c .before .cause .given .0 .0) (sym (e .walk-columns .ensures) ∙ c .before .cause .given .1))
 
 pub walk-table-spec : {M : Type 1} → statement M
 walk-table-spec =
@@ -49,7 +39,6 @@ walk-table-spec =
     zeros-end-requires
     walk-columns-requires
     enum-told
-    rows-at-requires
     walk-rows-requires
     enum-known-cause
     returns
