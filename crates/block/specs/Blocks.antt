@@ -1,4 +1,4 @@
--- Document 01, "Header walk": a block. s is the container and p the block's start, which is the place of each of its refusals.
+-- Document 01, "Header walk": a block. s is the container, how says how it is read, and p is the block's start, the place of each of its refusals.
 use Prim.Native.Nat.{ℕ, _+_, _-_, _*_, _/_}
 use mathlib.Core.List.{List, [], _∷_}
 use mathlib.Core.Bool.{not, cond}
@@ -7,6 +7,7 @@ use lib.Dec.{ltb, eqb}
 use Rattle.word.specs.Numbers.{be32}
 use Rattle.refusal.specs.declared.Cause.{Cause}
 use Rattle.refusal.specs.declared.Cause.the-variants as cause
+use Rattle.reading.specs.declared.Reading.{Reading}
 use Rattle.signature.specs.Signatures.{CRID, SFV, SFA, metadataEnd, standsAt}
 use Rattle.film_name.specs.Names.{nameIn}
 use Rattle.codec.specs.Codecs.{codecOf}
@@ -50,7 +51,7 @@ markedAt s marker unmarked p next =
 
 -- a table that is "read and checked"
 abbrev pub tabled : ℕ → ℕ → TableAnswer → BlockAnswer
-tabled p next (table.Table columns rows) = Next next
+tabled p next (table.Table l) = Next next
 tabled p next (table.NoTable refusal) = refusedAt p (refusal .cause)
 
 -- a table that gives a codec
@@ -81,16 +82,16 @@ unfoldable pub markerBlock : List ℕ → ℕ → Cause → List ℕ → Cause �
 markerBlock s letters missing marker unmarked p = andThen (markedAt s marker unmarked p) (headAt s letters missing p)
 
 -- a block with a table
-unfoldable pub tableBlock : List ℕ → ℕ → Cause → ℕ → BlockAnswer
-tableBlock s letters missing p = andThen (λ next. tabled p next (tableAt s (p + 0x20))) (headAt s letters missing p)
+unfoldable pub tableBlock : List ℕ → Reading → ℕ → Cause → ℕ → BlockAnswer
+tableBlock s how letters missing p = andThen (λ next. tabled p next (tableAt s (p + 0x20))) (headAt s letters missing p)
 
 -- a block with a table that gives a codec: "that cell in the first row"
-unfoldable pub codecBlock : List ℕ → ℕ → Cause → List ℕ → ℕ → CodecBlock
-codecBlock s letters missing column p = thenCodec (λ next. coded p next (cellOf s (p + 0x20) column 0)) (headAt s letters missing p)
+unfoldable pub codecBlock : List ℕ → Reading → ℕ → Cause → List ℕ → ℕ → CodecBlock
+codecBlock s how letters missing column p = thenCodec (λ next. coded p next (cellOf s (p + 0x20) column 0)) (headAt s letters missing p)
 
 -- "`CRID` at 0, table (it gives the name)": "the `filename` cell of the last row"
-unfoldable pub nameBlock : List ℕ → NameBlock
-nameBlock s = thenName (λ next. named 0 next (lastCellOf s 0x20 filename)) (headAt s CRID cause.NoFilm 0)
+unfoldable pub nameBlock : List ℕ → Reading → NameBlock
+nameBlock s how = thenName (λ next. named 0 next (lastCellOf s 0x20 filename)) (headAt s CRID cause.NoFilm 0)
 
 -- "If `@SFA` is next"; fewer than four bytes are neither
 unfoldable pub aheadAt : List ℕ → ℕ → Ahead

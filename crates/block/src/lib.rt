@@ -10,6 +10,7 @@ ghost use Rattle.block.specs.Blocks.{filename, refusedAt, headAt, marked
 use codec::Codec;
 use film_name::Name;
 use lookup::Lookup;
+use reading::Reading;
 use refusal::Cause;
 use refusal::Refusal;
 use table::TableAnswer;
@@ -41,6 +42,12 @@ pub enum Ahead {
 
 // The bytes of a block's letters and its size.
 const HEAD: usize = 8;
+
+// Where the marker of a last block ends, from the block's start.
+const MARKED: usize = 45;
+
+// The bytes between a last block and the chunks.
+const GAP: usize = 16;
 
 // A refusal of the block at a place.
 fn refused(cause: Cause, place: usize) -> BlockAnswer
@@ -80,15 +87,12 @@ fn marked_at(bytes: &[u8], marker: &[u8], unmarked: Cause, place: usize, next: u
 }
 
 // The table of a block whose head was read, which is checked. Past such a head no sum overflows.
-fn table_at(bytes: &[u8], place: usize, next: usize) -> BlockAnswer
+fn table_at(bytes: &[u8], reading: Reading, place: usize, next: usize) -> BlockAnswer
     requires { ⌜ place + 8 ≤ length (now bytes) ⌝ }
     ensures { λ r. ⌜ r ≡ tabled place next (tableAt (now (bytes .entry)) (place + 0x20)) ⌝ }
 {
     match table::read_table(bytes, place + signature::INSIDE) {
-        TableAnswer::Table {
-            columns: _,
-            rows: _,
-        } => BlockAnswer::Next(next),
+        TableAnswer::Table(_) => BlockAnswer::Next(next),
         TableAnswer::NoTable(refusal) => {
             let cause = refusal.cause;
             refused(cause, place)
@@ -97,7 +101,7 @@ fn table_at(bytes: &[u8], place: usize, next: usize) -> BlockAnswer
 }
 
 // The table of a block whose head was read: its column's cell in the first row is a codec.
-fn codec_at(bytes: &[u8], column: &[u8], place: usize, next: usize) -> CodecBlock
+fn codec_at(bytes: &[u8], reading: Reading, column: &[u8], place: usize, next: usize) -> CodecBlock
     requires { ⌜ place + 8 ≤ length (now bytes) ⌝ }
     ensures { λ r. ⌜ r ≡ coded place next (cellOf (now (bytes .entry)) (place + 0x20) (now (column .entry)) 0) ⌝ }
 {
@@ -114,7 +118,7 @@ fn codec_at(bytes: &[u8], column: &[u8], place: usize, next: usize) -> CodecBloc
 }
 
 // The table of the block at 0: its `filename` in the last row is the name.
-fn name_at(bytes: &[u8], next: usize) -> NameBlock
+fn name_at(bytes: &[u8], reading: Reading, next: usize) -> NameBlock
     ensures { λ r. ⌜ r ≡ named 0 next (lastCellOf (now (bytes .entry)) 0x20 filename) ⌝ }
 {
     match lookup::last_cell_of(bytes, signature::INSIDE, b"filename") {
@@ -147,11 +151,17 @@ pub fn marker_block(
 }
 
 // The block at a place, with a table.
-pub fn table_block(bytes: &[u8], letters: usize, missing: Cause, place: usize) -> BlockAnswer
-    ensures { λ r. ⌜ r ≡ tableBlock (now (bytes .entry)) letters missing place ⌝ }
+pub fn table_block(
+    bytes: &[u8],
+    reading: Reading,
+    letters: usize,
+    missing: Cause,
+    place: usize,
+) -> BlockAnswer
+    ensures { λ r. ⌜ r ≡ tableBlock (now (bytes .entry)) reading letters missing place ⌝ }
 {
     match head_at(bytes, letters, missing, place) {
-        BlockAnswer::Next(next) => table_at(bytes, place, next),
+        BlockAnswer::Next(next) => table_at(bytes, reading, place, next),
         BlockAnswer::NoBlock(refusal) => BlockAnswer::NoBlock(refusal),
     }
 }
@@ -159,25 +169,26 @@ pub fn table_block(bytes: &[u8], letters: usize, missing: Cause, place: usize) -
 // The block at a place, with a table that gives a codec.
 pub fn codec_block(
     bytes: &[u8],
+    reading: Reading,
     letters: usize,
     missing: Cause,
     column: &[u8],
     place: usize,
 ) -> CodecBlock
-    ensures { λ r. ⌜ r ≡ codecBlock (now (bytes .entry)) letters missing (now (column .entry)) place ⌝ }
+    ensures { λ r. ⌜ r ≡ codecBlock (now (bytes .entry)) reading letters missing (now (column .entry)) place ⌝ }
 {
     match head_at(bytes, letters, missing, place) {
-        BlockAnswer::Next(next) => codec_at(bytes, column, place, next),
+        BlockAnswer::Next(next) => codec_at(bytes, reading, column, place, next),
         BlockAnswer::NoBlock(refusal) => CodecBlock::NoCodec(refusal),
     }
 }
 
 // The block at 0, with a table that gives the name.
-pub fn name_block(bytes: &[u8]) -> NameBlock
-    ensures { λ r. ⌜ r ≡ nameBlock (now (bytes .entry)) ⌝ }
+pub fn name_block(bytes: &[u8], reading: Reading) -> NameBlock
+    ensures { λ r. ⌜ r ≡ nameBlock (now (bytes .entry)) reading ⌝ }
 {
     match head_at(bytes, signature::CRID, Cause::NoFilm, 0) {
-        BlockAnswer::Next(next) => name_at(bytes, next),
+        BlockAnswer::Next(next) => name_at(bytes, reading, next),
         BlockAnswer::NoBlock(refusal) => NameBlock::NoName(refusal),
     }
 }
@@ -200,7 +211,7 @@ fn chunks_after(place: usize) -> usize
     requires { ⌜ place < 2 ^ 63 ⌝ }
     ensures { λ r. ⌜ r ≡ chunksAfter place ⌝ }
 {
-    (place + 45 + 3) / 4 * 4 + 16
+    (place + MARKED + 3) / 4 * 4 + GAP
 }
 
 // The last block, at a place, whose size is not read: where chunks begin.

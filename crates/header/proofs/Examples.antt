@@ -5,9 +5,11 @@ use mathlib.Core.List.{List, [], _∷_, _++_, map}
 use mathlib.Core.Bool.{Bool, true, false}
 use lib.ListN.{length, take}
 use Rattle.refusal.specs.declared.Cause.the-variants.{RanOut}
+use Rattle.reading.specs.declared.Reading.{Reading}
 use Rattle.signature.specs.Signatures.{sameBytes, headerEnd, metadataEnd, contentsEnd}
 use Rattle.film_name.specs.declared.Name.the-variants.{Fallback}
 use Rattle.codec.specs.declared.Codec.the-variants.{Absent}
+use Rattle.layout.specs.Layouts.{countedIn, layoutIn}
 use Rattle.table.specs.Walks.{walkOf, columnsFrom, rowsFrom}
 use Rattle.table.specs.Tables.{tableOf}
 use Rattle.lookup.specs.Lookups.{cellFrom}
@@ -76,8 +78,9 @@ F-size : length F ≡ 448
 unfolding F
 F-size = refl
 
--- F begins its chunks at 320. "F cut to 301 or 319 bytes accepted"; "to 300: 1 at 256." With audio "chunks follow the last block"
-read : map headerOf (F ∷ take 319 F ∷ take 301 F ∷ take 300 F ∷ withAudio ∷ [])
+-- F begins its chunks at 320. "F cut to 301 or 319 bytes accepted"; "to 300: 1 at 256." With audio "chunks follow the last block". However they are read
+read : (how : Reading)
+    → map (λ (s : List ℕ). headerOf s how) (F ∷ take 319 F ∷ take 301 F ∷ take 300 F ∷ withAudio ∷ [])
     ≡ (told false 320 ∷ told false 320 ∷ told false 320 ∷ refused 256 RanOut ∷ told true 576 ∷ [])
-unfolding F withAudio headerOf step1 step2 step3Audio step3 step4 step5 step6 step7 step7Table step7Video nameBlock codecBlock markerBlock tableBlock aheadAt lastBlock headAt markedAt cellFrom tableOf walkOf columnsFrom rowsFrom sameBytes
-read = refl
+unfolding F withAudio headerOf step1 step2 step3Audio step3 step4 step5 step6 step7 step7Table step7Video nameBlock codecBlock markerBlock tableBlock aheadAt lastBlock headAt markedAt cellFrom tableOf layoutIn countedIn walkOf columnsFrom rowsFrom sameBytes
+read how = refl

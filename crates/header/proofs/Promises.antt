@@ -7,6 +7,7 @@ use native.Mathlib.Omega.{arith}
 use lib.ListN.{length}
 use lib.Dec.{ltb}
 use Rattle.refusal.specs.declared.Cause.the-variants as cause
+use Rattle.reading.specs.declared.Reading.{Reading}
 use Rattle.signature.specs.Signatures.{CRID, SFA, SFV}
 use Rattle.cell.specs.declared.Cell.{Cell}
 use Rattle.cell.specs.declared.Cell.the-variants.{Nothing, Unsigned, Signed, Float, NotANumber, Text, Data}
@@ -44,7 +45,7 @@ name-end (Refused refusal) = 0
 
 -- ---- steps 2 to 8 keep the name
 
-module _ (s : List ℕ) (name : Name) where
+module _ (s : List ℕ) (how : Reading) (name : Name) where
   finish-keeps : (video : Codec) (audio : Bool) (sound : Codec) (x : BlockAnswer) → name-end (finish name video audio sound x) ≤ end-of name
   finish-keeps video audio sound (Next chunks) = omega arith
   finish-keeps video audio sound (NoBlock refusal) = omega arith
@@ -55,25 +56,25 @@ module _ (s : List ℕ) (name : Name) where
   codec-keeps k h (NoCodec refusal) = omega arith
 
   module _ (video : Codec) (p : ℕ) where
-    step3Audio-keeps : name-end (step3Audio s name video p) ≤ end-of name
+    step3Audio-keeps : name-end (step3Audio s how name video p) ≤ end-of name
     unfolding step3Audio
     step3Audio-keeps =
-        codec-keeps (λ sound next. finish name video true sound (step4 s true next)) (λ sound next. finish-keeps video true sound (step4 s true next))
-        (codecBlock s SFA cause.NoAudio audioCodec p)
+        codec-keeps (λ sound next. finish name video true sound (step4 s how true next)) (λ sound next. finish-keeps video true sound (step4 s how true next))
+        (codecBlock s how SFA cause.NoAudio audioCodec p)
 
     ahead-keeps : (x : Ahead)
-        → name-end (byAhead (step3Audio s name video p) (finish name video false Absent (step4 s false p)) (refused p cause.RanOut) x) ≤ end-of name
+        → name-end (byAhead (step3Audio s how name video p) (finish name video false Absent (step4 s how false p)) (refused p cause.RanOut) x) ≤ end-of name
     ahead-keeps Sound = step3Audio-keeps
-    ahead-keeps Other = finish-keeps video false Absent (step4 s false p)
+    ahead-keeps Other = finish-keeps video false Absent (step4 s how false p)
     ahead-keeps Cut = omega arith
 
-    step3-keeps : name-end (step3 s name video p) ≤ end-of name
+    step3-keeps : name-end (step3 s how name video p) ≤ end-of name
     unfolding step3
     step3-keeps = ahead-keeps (aheadAt s p)
 
-  step2-keeps : (p : ℕ) → name-end (step2 s name p) ≤ end-of name
+  step2-keeps : (p : ℕ) → name-end (step2 s how name p) ≤ end-of name
   unfolding step2
-  step2-keeps p = codec-keeps (step3 s name) step3-keeps (codecBlock s SFV cause.NoVideo mpegCodec p)
+  step2-keeps p = codec-keeps (step3 s how name) step3-keeps (codecBlock s how SFV cause.NoVideo mpegCodec p)
 
 -- ---- step 1 gives it
 
@@ -86,24 +87,24 @@ same-end (NotANumber n) = refl
 same-end (Text start len) = refl
 same-end (Data start len) = refl
 
-module _ (s : List ℕ) where
-  by-lookup : (next : ℕ) (x : Lookup) → lastCellOf s 0x20 filename ≡ x → name-end (afterName (step2 s) (named 0 next x)) ≤ length s
+module _ (s : List ℕ) (how : Reading) where
+  by-lookup : (next : ℕ) (x : Lookup) → lastCellOf s 0x20 filename ≡ x → name-end (afterName (step2 s how) (named 0 next x)) ≤ length s
   by-lookup next (Holds cell) e =
-      omega (arith, step2-keeps s (nameIn cell) next, same-end cell, PartsLieWithin s 0x20 filename (lastRow (tableAt s 0x20)) cell e)
+      omega (arith, step2-keeps s how (nameIn cell) next, same-end cell, PartsLieWithin s 0x20 filename (lastRow (tableAt s 0x20)) cell e)
   by-lookup next (NoTable refusal) e = omega arith
 
-  by-head : (x : BlockAnswer) → name-end (afterName (step2 s) (thenName (λ next. named 0 next (lastCellOf s 0x20 filename)) x)) ≤ length s
+  by-head : (x : BlockAnswer) → name-end (afterName (step2 s how) (thenName (λ next. named 0 next (lastCellOf s 0x20 filename)) x)) ≤ length s
   by-head (Next next) = by-lookup next (lastCellOf s 0x20 filename) refl
   by-head (NoBlock refusal) = omega arith
 
-  by-length : (t : Bool) → name-end (cond t (refused 0 cause.TooLong) (step1 s)) ≤ length s
+  by-length : (t : Bool) → name-end (cond t (refused 0 cause.TooLong) (step1 s how)) ≤ length s
   unfolding step1 nameBlock
   by-length true = omega arith
   by-length false = by-head (headAt s CRID cause.NoFilm 0)
 
-  within : name-end (headerOf s) ≤ length s
+  within : name-end (headerOf s how) ≤ length s
   unfolding headerOf
   within = by-length (ltb 0x40000000 (length s))
 
 pub NameLiesWithin : promised.NameLiesWithin
-NameLiesWithin container header start len e f = omega (arith, within container, ap name-end e, ap end-of f)
+NameLiesWithin container how header start len e f = omega (arith, within container how, ap name-end e, ap end-of f)

@@ -1,4 +1,5 @@
--- Document 01, "Header walk": steps 1 to 8, and refusal 11, which "comes first". s is the container, p the start of a step's block.
+-- Document 01, "Header walk": steps 1 to 8, and refusal 11, which "comes first". s is the container,
+-- how says how it is read, p is the start of a step's block.
 -- Each step goes on to the next, so they stand here from the last to the first.
 use Prim.Native.Nat.{ℕ}
 use mathlib.Core.List.{List, [], _∷_}
@@ -7,6 +8,7 @@ use lib.ListN.{length}
 use lib.Dec.{ltb}
 use Rattle.refusal.specs.declared.Cause.{Cause}
 use Rattle.refusal.specs.declared.Cause.the-variants.{RanOut, NoVideo, NoAudio, NoHeaderEnd, NoMetadataEnd, TooLong}
+use Rattle.reading.specs.declared.Reading.{Reading}
 use Rattle.signature.specs.Signatures.{SFV, SFA, headerEnd, metadataEnd}
 use Rattle.film_name.specs.declared.Name.{Name}
 use Rattle.codec.specs.declared.Codec.{Codec}
@@ -50,23 +52,23 @@ step7Audio s p = markerBlock s SFA NoAudio metadataEnd NoMetadataEnd p
 unfoldable pub step7Video : List ℕ → ℕ → BlockAnswer
 step7Video s p = andThen (step7Audio s) (markerBlock s SFV NoVideo metadataEnd NoMetadataEnd p)
 
-unfoldable pub step7Table : List ℕ → ℕ → BlockAnswer
-step7Table s p = andThen (step7Video s) (tableBlock s SFA NoAudio p)
+unfoldable pub step7Table : List ℕ → Reading → ℕ → BlockAnswer
+step7Table s how p = andThen (step7Video s) (tableBlock s how SFA NoAudio p)
 
-unfoldable pub step7 : List ℕ → Bool → ℕ → BlockAnswer
-step7 s audio p = cond audio (byAhead (step7Table s p) (step8 s p) (refusedAt p RanOut) (aheadAt s p)) (step8 s p)
+unfoldable pub step7 : List ℕ → Reading → Bool → ℕ → BlockAnswer
+step7 s how audio p = cond audio (byAhead (step7Table s how p) (step8 s p) (refusedAt p RanOut) (aheadAt s p)) (step8 s p)
 
 -- 6. "`@SFV`, table."
-unfoldable pub step6 : List ℕ → Bool → ℕ → BlockAnswer
-step6 s audio p = andThen (step7 s audio) (tableBlock s SFV NoVideo p)
+unfoldable pub step6 : List ℕ → Reading → Bool → ℕ → BlockAnswer
+step6 s how audio p = andThen (step7 s how audio) (tableBlock s how SFV NoVideo p)
 
 -- 5. "With audio: `@SFA` with `#HEADER END`."
-unfoldable pub step5 : List ℕ → Bool → ℕ → BlockAnswer
-step5 s audio p = cond audio (andThen (step6 s audio) (markerBlock s SFA NoAudio headerEnd NoHeaderEnd p)) (step6 s audio p)
+unfoldable pub step5 : List ℕ → Reading → Bool → ℕ → BlockAnswer
+step5 s how audio p = cond audio (andThen (step6 s how audio) (markerBlock s SFA NoAudio headerEnd NoHeaderEnd p)) (step6 s how audio p)
 
 -- 4. "`@SFV` with `#HEADER END`."
-unfoldable pub step4 : List ℕ → Bool → ℕ → BlockAnswer
-step4 s audio p = andThen (step5 s audio) (markerBlock s SFV NoVideo headerEnd NoHeaderEnd p)
+unfoldable pub step4 : List ℕ → Reading → Bool → ℕ → BlockAnswer
+step4 s how audio p = andThen (step5 s how audio) (markerBlock s SFV NoVideo headerEnd NoHeaderEnd p)
 
 -- ---- 3 to 1: name and codecs
 
@@ -87,20 +89,20 @@ afterName k (Named name next) = k name next
 afterName k (NoName refusal) = Refused refusal
 
 -- 3. "If `@SFA` is next: table (it gives `audio_codec`, absent without audio), audio present."
-unfoldable pub step3Audio : List ℕ → Name → Codec → ℕ → HeaderAnswer
-step3Audio s name video p = afterCodec (λ sound next. finish name video true sound (step4 s true next)) (codecBlock s SFA NoAudio audioCodec p)
+unfoldable pub step3Audio : List ℕ → Reading → Name → Codec → ℕ → HeaderAnswer
+step3Audio s how name video p = afterCodec (λ sound next. finish name video true sound (step4 s how true next)) (codecBlock s how SFA NoAudio audioCodec p)
 
-unfoldable pub step3 : List ℕ → Name → Codec → ℕ → HeaderAnswer
-step3 s name video p = byAhead (step3Audio s name video p) (finish name video false Absent (step4 s false p)) (refused p RanOut) (aheadAt s p)
+unfoldable pub step3 : List ℕ → Reading → Name → Codec → ℕ → HeaderAnswer
+step3 s how name video p = byAhead (step3Audio s how name video p) (finish name video false Absent (step4 s how false p)) (refused p RanOut) (aheadAt s p)
 
 -- 2. "`@SFV`, table (it gives `mpeg_codec`)."
-unfoldable pub step2 : List ℕ → Name → ℕ → HeaderAnswer
-step2 s name p = afterCodec (step3 s name) (codecBlock s SFV NoVideo mpegCodec p)
+unfoldable pub step2 : List ℕ → Reading → Name → ℕ → HeaderAnswer
+step2 s how name p = afterCodec (step3 s how name) (codecBlock s how SFV NoVideo mpegCodec p)
 
 -- 1. "`CRID` at 0, table (it gives the name)."
-unfoldable pub step1 : List ℕ → HeaderAnswer
-step1 s = afterName (step2 s) (nameBlock s)
+unfoldable pub step1 : List ℕ → Reading → HeaderAnswer
+step1 s how = afterName (step2 s how) (nameBlock s how)
 
 -- "container 1,073,741,824 bytes"; "11 comes first; then the walk's first refusal in reading order"; its place is 0
-unfoldable pub headerOf : List ℕ → HeaderAnswer
-headerOf s = cond (ltb 0x40000000 (length s)) (refused 0 TooLong) (step1 s)
+unfoldable pub headerOf : List ℕ → Reading → HeaderAnswer
+headerOf s how = cond (ltb 0x40000000 (length s)) (refused 0 TooLong) (step1 s how)

@@ -9,6 +9,7 @@ use block::CodecBlock;
 use block::NameBlock;
 use codec::Codec;
 use film_name::Name;
+use reading::Reading;
 use refusal::Cause;
 use refusal::Refusal;
 
@@ -72,22 +73,22 @@ fn step_7_video(container: &[u8], place: usize) -> BlockAnswer
 }
 
 // 7, its first block: `@SFA`, table.
-fn step_7_table(container: &[u8], place: usize) -> BlockAnswer
-    ensures { λ r. ⌜ r ≡ step7Table (now (container .entry)) place ⌝ }
+fn step_7_table(container: &[u8], reading: Reading, place: usize) -> BlockAnswer
+    ensures { λ r. ⌜ r ≡ step7Table (now (container .entry)) reading place ⌝ }
 {
-    match block::table_block(container, signature::SFA, Cause::NoAudio, place) {
+    match block::table_block(container, reading, signature::SFA, Cause::NoAudio, place) {
         BlockAnswer::Next(next) => step_7_video(container, next),
         BlockAnswer::NoBlock(refusal) => BlockAnswer::NoBlock(refusal),
     }
 }
 
 // 7: with audio and `@SFA` next, its three blocks; otherwise 8.
-fn step_7(container: &[u8], audio: bool, place: usize) -> BlockAnswer
-    ensures { λ r. ⌜ r ≡ step7 (now (container .entry)) audio place ⌝ }
+fn step_7(container: &[u8], reading: Reading, audio: bool, place: usize) -> BlockAnswer
+    ensures { λ r. ⌜ r ≡ step7 (now (container .entry)) reading audio place ⌝ }
 {
     if audio {
         return match block::ahead_at(container, place) {
-            Ahead::Sound => step_7_table(container, place),
+            Ahead::Sound => step_7_table(container, reading, place),
             Ahead::Other => step_8(container, place),
             Ahead::Cut => BlockAnswer::NoBlock(Refusal {
                 cause: Cause::RanOut,
@@ -99,18 +100,18 @@ fn step_7(container: &[u8], audio: bool, place: usize) -> BlockAnswer
 }
 
 // 6: `@SFV`, table.
-fn step_6(container: &[u8], audio: bool, place: usize) -> BlockAnswer
-    ensures { λ r. ⌜ r ≡ step6 (now (container .entry)) audio place ⌝ }
+fn step_6(container: &[u8], reading: Reading, audio: bool, place: usize) -> BlockAnswer
+    ensures { λ r. ⌜ r ≡ step6 (now (container .entry)) reading audio place ⌝ }
 {
-    match block::table_block(container, signature::SFV, Cause::NoVideo, place) {
-        BlockAnswer::Next(next) => step_7(container, audio, next),
+    match block::table_block(container, reading, signature::SFV, Cause::NoVideo, place) {
+        BlockAnswer::Next(next) => step_7(container, reading, audio, next),
         BlockAnswer::NoBlock(refusal) => BlockAnswer::NoBlock(refusal),
     }
 }
 
 // 5: with audio, `@SFA` with `#HEADER END`.
-fn step_5(container: &[u8], audio: bool, place: usize) -> BlockAnswer
-    ensures { λ r. ⌜ r ≡ step5 (now (container .entry)) audio place ⌝ }
+fn step_5(container: &[u8], reading: Reading, audio: bool, place: usize) -> BlockAnswer
+    ensures { λ r. ⌜ r ≡ step5 (now (container .entry)) reading audio place ⌝ }
 {
     if audio {
         return match block::marker_block(
@@ -121,16 +122,16 @@ fn step_5(container: &[u8], audio: bool, place: usize) -> BlockAnswer
             Cause::NoHeaderEnd,
             place,
         ) {
-            BlockAnswer::Next(next) => step_6(container, audio, next),
+            BlockAnswer::Next(next) => step_6(container, reading, audio, next),
             BlockAnswer::NoBlock(refusal) => BlockAnswer::NoBlock(refusal),
         };
     }
-    step_6(container, audio, place)
+    step_6(container, reading, audio, place)
 }
 
 // 4: `@SFV` with `#HEADER END`.
-fn step_4(container: &[u8], audio: bool, place: usize) -> BlockAnswer
-    ensures { λ r. ⌜ r ≡ step4 (now (container .entry)) audio place ⌝ }
+fn step_4(container: &[u8], reading: Reading, audio: bool, place: usize) -> BlockAnswer
+    ensures { λ r. ⌜ r ≡ step4 (now (container .entry)) reading audio place ⌝ }
 {
     match block::marker_block(
         container,
@@ -140,7 +141,7 @@ fn step_4(container: &[u8], audio: bool, place: usize) -> BlockAnswer
         Cause::NoHeaderEnd,
         place,
     ) {
-        BlockAnswer::Next(next) => step_5(container, audio, next),
+        BlockAnswer::Next(next) => step_5(container, reading, audio, next),
         BlockAnswer::NoBlock(refusal) => BlockAnswer::NoBlock(refusal),
     }
 }
@@ -162,18 +163,25 @@ fn finished(name: Name, video: Codec, audio: bool, sound: Codec, end: BlockAnswe
 }
 
 // 3, with audio: `@SFA`, table, which gives `audio_codec`.
-fn step_3_audio(container: &[u8], name: Name, video: Codec, place: usize) -> HeaderAnswer
-    ensures { λ r. ⌜ r ≡ step3Audio (now (container .entry)) name video place ⌝ }
+fn step_3_audio(
+    container: &[u8],
+    reading: Reading,
+    name: Name,
+    video: Codec,
+    place: usize,
+) -> HeaderAnswer
+    ensures { λ r. ⌜ r ≡ step3Audio (now (container .entry)) reading name video place ⌝ }
 {
     match block::codec_block(
         container,
+        reading,
         signature::SFA,
         Cause::NoAudio,
         b"audio_codec",
         place,
     ) {
         CodecBlock::Coded { codec, next } => {
-            let end = step_4(container, true, next);
+            let end = step_4(container, reading, true, next);
             finished(name, video, true, codec, end)
         }
         CodecBlock::NoCodec(refusal) => HeaderAnswer::Refused(refusal),
@@ -181,13 +189,19 @@ fn step_3_audio(container: &[u8], name: Name, video: Codec, place: usize) -> Hea
 }
 
 // 3: if `@SFA` is next, there is audio.
-fn step_3(container: &[u8], name: Name, video: Codec, place: usize) -> HeaderAnswer
-    ensures { λ r. ⌜ r ≡ step3 (now (container .entry)) name video place ⌝ }
+fn step_3(
+    container: &[u8],
+    reading: Reading,
+    name: Name,
+    video: Codec,
+    place: usize,
+) -> HeaderAnswer
+    ensures { λ r. ⌜ r ≡ step3 (now (container .entry)) reading name video place ⌝ }
 {
     match block::ahead_at(container, place) {
-        Ahead::Sound => step_3_audio(container, name, video, place),
+        Ahead::Sound => step_3_audio(container, reading, name, video, place),
         Ahead::Other => {
-            let end = step_4(container, false, place);
+            let end = step_4(container, reading, false, place);
             finished(name, video, false, Codec::Absent, end)
         }
         Ahead::Cut => HeaderAnswer::Refused(Refusal {
@@ -198,34 +212,35 @@ fn step_3(container: &[u8], name: Name, video: Codec, place: usize) -> HeaderAns
 }
 
 // 2: `@SFV`, table, which gives `mpeg_codec`.
-fn step_2(container: &[u8], name: Name, place: usize) -> HeaderAnswer
-    ensures { λ r. ⌜ r ≡ step2 (now (container .entry)) name place ⌝ }
+fn step_2(container: &[u8], reading: Reading, name: Name, place: usize) -> HeaderAnswer
+    ensures { λ r. ⌜ r ≡ step2 (now (container .entry)) reading name place ⌝ }
 {
     match block::codec_block(
         container,
+        reading,
         signature::SFV,
         Cause::NoVideo,
         b"mpeg_codec",
         place,
     ) {
-        CodecBlock::Coded { codec, next } => step_3(container, name, codec, next),
+        CodecBlock::Coded { codec, next } => step_3(container, reading, name, codec, next),
         CodecBlock::NoCodec(refusal) => HeaderAnswer::Refused(refusal),
     }
 }
 
 // 1: `CRID` at 0, table, which gives the name.
-fn step_1(container: &[u8]) -> HeaderAnswer
-    ensures { λ r. ⌜ r ≡ step1 (now (container .entry)) ⌝ }
+fn step_1(container: &[u8], reading: Reading) -> HeaderAnswer
+    ensures { λ r. ⌜ r ≡ step1 (now (container .entry)) reading ⌝ }
 {
-    match block::name_block(container) {
-        NameBlock::Named { name, next } => step_2(container, name, next),
+    match block::name_block(container, reading) {
+        NameBlock::Named { name, next } => step_2(container, reading, name, next),
         NameBlock::NoName(refusal) => HeaderAnswer::Refused(refusal),
     }
 }
 
 // The header of a container, or why it is refused: too long, or the walk's first refusal.
-pub fn read_header(container: &[u8]) -> HeaderAnswer
-    ensures { λ r. ⌜ r ≡ headerOf (now (container .entry)) ⌝ }
+pub fn read_header(container: &[u8], reading: Reading) -> HeaderAnswer
+    ensures { λ r. ⌜ r ≡ headerOf (now (container .entry)) reading ⌝ }
 {
     if LONGEST < container.len() {
         return HeaderAnswer::Refused(Refusal {
@@ -233,5 +248,5 @@ pub fn read_header(container: &[u8]) -> HeaderAnswer
             place: 0,
         });
     }
-    step_1(container)
+    step_1(container, reading)
 }

@@ -39,9 +39,11 @@ marked-at-requires c κs = search needs
 
 returns-3 : tie.Need-returns-3
 returns-3 c =
-    let a = c .before .before .before .before .before .before .before .before .args in
-    let marked = last-marked (a .bytes .now) (a .place) (omega arith) (sym (c .before .before .before .before .read32 .ensures .0) ∙ c .before .before .before .if2 .left) in
-    rw (c .marked-at .ensures, c .before .before .chunks-after .ensures, marked)
+    let chunks = c .before .before in
+    let letters = chunks .before .before in
+    let a = letters .before .before .before .before .args in
+    let marked = last-marked (a .bytes .now) (a .place) (omega arith) (sym (letters .read32 .ensures .0) ∙ chunks .before .if2 .left) in
+    rw (c .marked-at .ensures, chunks .chunks-after .ensures, marked)
 
 pub last-block-spec : {M : Type 1} → statement M
 last-block-spec =
