@@ -57,11 +57,11 @@ module _ (container : List ℕ) (reading : Reading) where
       let w = walked header (appliedIn header) in
       ended-stopped header (appliedIn header) (w .chunks) (w .ending) refusal e
 
-  pub with-header : (header : Header) → headerOf container ≡ answer.Read header → filmFrom container reading header ≡ filmOf container reading
+  pub with-header : (header : Header) → headerOf container reading ≡ answer.Read header → filmFrom container reading header ≡ filmOf container reading
   unfolding filmOf
   with-header header e = rw e
 
-  pub without-header : (refusal : Refusal) → headerOf container ≡ answer.Refused refusal → refused refusal ≡ filmOf container reading
+  pub without-header : (refusal : Refusal) → headerOf container reading ≡ answer.Refused refusal → refused refusal ≡ filmOf container reading
   unfolding filmOf
   without-header refusal e = rw e
 
@@ -85,4 +85,4 @@ module _ (container : List ℕ) (reading : Reading) where
   pub surveyed-film : (header : Header) (applied : Applied) (count video audio : ℕ) → surveyOf (filmOf container reading) ≡ survey.Film header applied count video audio
       → Accepted header applied (filmOf container reading)
   unfolding filmOf
-  surveyed-film header applied count video audio e = film-after header applied count video audio (headerOf container) e
+  surveyed-film header applied count video audio e = film-after header applied count video audio (headerOf container reading) e

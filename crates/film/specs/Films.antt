@@ -40,7 +40,7 @@ afterHeader k (answer.Read header) = k header
 afterHeader k (answer.Refused refusal) = refused refusal
 
 unfoldable pub filmOf : List ℕ → Reading → Film
-filmOf container reading = afterHeader (filmFrom container reading) (headerOf container)
+filmOf container reading = afterHeader (filmFrom container reading) (headerOf container reading)
 
 -- count and sizes are sums over the chunks
 abbrev pub surveyOf : Film → Surveyed

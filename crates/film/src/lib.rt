@@ -47,7 +47,7 @@ fn measure_chunks(container: &[u8], header: Header, reading: Reading) -> Surveye
 pub fn survey(container: &[u8], reading: Reading) -> Surveyed
     ensures { λ r. ⌜ r ≡ surveyOf (filmOf (now (container .entry)) reading) ⌝ }
 {
-    match header::read_header(container) {
+    match header::read_header(container, reading) {
         HeaderAnswer::Read(header) => measure_chunks(container, header, reading),
         HeaderAnswer::Refused(refusal) => Surveyed::Refused(refusal),
     }

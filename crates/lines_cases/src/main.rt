@@ -192,7 +192,7 @@ fn wrong_chunks() {
 // Prints how many bytes the payload reader hands back at a place.
 fn payload_at(film: &[u8], place: usize) {
     let payload = chunk::read_payload(film, place, reading::reading_by(1));
-    text::empty()
+    replay_line::empty()
         .decimal(place as u64)
         .word(b" ")
         .decimal(payload.len() as u64)

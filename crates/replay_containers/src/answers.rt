@@ -11,13 +11,13 @@ use list::Plan;
 use reading::Reading;
 use refusal::Cause;
 use refusal::Refusal;
-use text::Line;
+use replay_line::Line;
 use unmasking::Key;
 
 // Writes a refusal's number and place, and the type where it is one that is unknown.
 fn write_refusal(refusal: Refusal) {
     let cause = refusal.cause;
-    let line = text::empty()
+    let line = replay_line::empty()
         .word(b"refused ")
         .decimal(refusal::number_of(cause) as u64)
         .word(b" at ")
@@ -46,7 +46,7 @@ fn write_stream(line: Line, size: usize, output: &[u8]) {
 
 // Writes the name: a part of the container, or the fallback.
 fn write_name<'a>(container: &'a [u8], fallback: &'a [u8], name: Name) {
-    text::empty()
+    replay_line::empty()
         .word(b"name ")
         .hex_bytes(film_name::name_of(container, fallback, name))
         .end();
@@ -56,7 +56,7 @@ fn write_name<'a>(container: &'a [u8], fallback: &'a [u8], name: Name) {
 fn write_video(contents: Contents, output: &[u8]) {
     let codec = contents.mpeg_codec;
     let kind = contents.video_kind;
-    let line = with_codec(text::empty().word(b"video "), codec);
+    let line = with_codec(replay_line::empty().word(b"video "), codec);
     match kind {
         VideoKind::Ivf => write_stream(line.word(b" ivf "), contents.video_size, output),
         VideoKind::M2v => write_stream(line.word(b" m2v "), contents.video_size, output),
@@ -66,12 +66,12 @@ fn write_video(contents: Contents, output: &[u8]) {
 // Writes the audio stream that an output holds, or that there is no audio.
 fn write_audio(contents: Contents, output: &[u8]) {
     if !contents.audio {
-        text::empty().word(b"silent").end();
+        replay_line::empty().word(b"silent").end();
         return;
     }
     let codec = contents.audio_codec;
     let kind = contents.audio_kind;
-    let line = with_codec(text::empty().word(b"audio "), codec);
+    let line = with_codec(replay_line::empty().word(b"audio "), codec);
     match kind {
         AudioKind::Hca => write_stream(line.word(b" hca "), contents.audio_size, output),
         AudioKind::Adx => write_stream(line.word(b" adx "), contents.audio_size, output),
@@ -105,7 +105,7 @@ fn with_kind(line: Line, kind: u8) -> Line {
 
 // Writes a record.
 fn write_record(made: ChunkRecord) {
-    with_kind(text::empty().decimal(made.start as u64), made.kind)
+    with_kind(replay_line::empty().decimal(made.start as u64), made.kind)
         .decimal(made.data_type as u64)
         .word(b" ")
         .decimal(made.len as u64)

@@ -7,7 +7,7 @@ mod payload;
 use digits::Typed;
 use libc::STDIN_FILENO;
 use libc::STDOUT_FILENO;
-use text::Line;
+use replay_line::Line;
 
 // The bytes of a line of the list: a key's digits, and LF.
 const LINE: usize = 17;
@@ -67,7 +67,7 @@ fn answer(act: Act, key: u64, len: usize) -> u64
 
 // A line that begins with a key.
 fn line_of(key: u64) -> Line {
-    text::empty().hex(key, 16)
+    replay_line::empty().hex(key, 16)
 }
 
 // A line with a space and a digest's eight digits after it.

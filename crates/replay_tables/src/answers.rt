@@ -10,13 +10,13 @@ const NEGATIVE: u64 = 0x8000_0000_0000_0000;
 
 // Writes a word and a number.
 fn write_number(word: &[u8], n: u64) {
-    text::empty().word(word).decimal(n).end();
+    replay_line::empty().word(word).decimal(n).end();
 }
 
 // Writes a refusal's number, and the type where it is one that is unknown.
 fn write_refusal(refusal: Refusal) {
     let cause = refusal.cause;
-    let line = text::empty()
+    let line = replay_line::empty()
         .word(b"refused ")
         .decimal(refusal::number_of(cause) as u64);
     match cause {
@@ -36,12 +36,12 @@ fn write_signed(bits: u64) {
 
 // Writes a float by its bits.
 fn write_float(bits: u64) {
-    text::empty().word(b"float ").hex(bits, 8).end();
+    replay_line::empty().word(b"float ").hex(bits, 8).end();
 }
 
 // Writes a word and the bytes of a string or data cell.
 fn write_part(word: &[u8], bytes: &[u8], cell: Cell) {
-    text::empty()
+    replay_line::empty()
         .word(word)
         .hex_bytes(cell::part_of(bytes, cell))
         .end();
@@ -50,7 +50,7 @@ fn write_part(word: &[u8], bytes: &[u8], cell: Cell) {
 // Writes what a cell holds.
 fn write_held(bytes: &[u8], cell: Cell) {
     match cell {
-        Cell::Nothing => text::empty().word(b"nothing").end(),
+        Cell::Nothing => replay_line::empty().word(b"nothing").end(),
         Cell::Unsigned(_) => write_number(b"unsigned ", cell::value_of(cell)),
         Cell::Signed(_) => write_signed(cell::value_of(cell)),
         Cell::Float(_) => write_float(cell::value_of(cell)),

@@ -9,8 +9,8 @@ use lib.Seq.{sets, drop-cons}
 use borrow.Author.Tests.{lt-ltb, le-ltb}
 use Rattle.laws.specs.Lists.{at}
 use Rattle.io.specs.Digits.{glyph}
-use Rattle.text.specs.declared.Line.{Line}
-use Rattle.text.specs.Lines.{withPiece, hexOf}
+use Rattle.replay_line.specs.declared.Line.{Line}
+use Rattle.replay_line.specs.Lines.{withPiece, hexOf}
 
 module _ (line : Line) (piece : List ℕ) where
   pub left-out : 8200 - line .len < length piece → line ≡ withPiece line piece

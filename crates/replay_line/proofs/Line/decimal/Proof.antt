@@ -1,9 +1,9 @@
--- `text::Line::decimal` meets its contract: the digits are put as a word. Assumes nothing.
+-- `replay_line::Line::decimal` meets its contract: the digits are put as a word. Assumes nothing.
 use mathlib.Core.Path.{ap, _∙_}
-use Rattle.text.specs.Lines.{withPiece}
+use Rattle.replay_line.specs.Lines.{withPiece}
 use borrow.Author.Needs.{needs}
-use Rattle.text.proofs.Line.decimal.Statement.{statement}
-use Rattle.text.proofs.Line.decimal.Tie as tie
+use Rattle.replay_line.proofs.Line.decimal.Statement.{statement}
+use Rattle.replay_line.proofs.Line.decimal.Tie as tie
 
 decimal-requires : tie.Need-decimal-requires
 decimal-requires c κs = search needs

@@ -1,15 +1,15 @@
--- `text::Line::hex_bytes` meets its contract: the digits fit, and those of the first i bytes are put. Assumes nothing.
+-- `replay_line::Line::hex_bytes` meets its contract: the digits fit, and those of the first i bytes are put. Assumes nothing.
 use mathlib.Core.Path.{_≡_, refl, sym, _∙_}
 use Prim.Native.Nat.{_+_, _*_, _-_, _≤_}
 use native.Mathlib.Nat.{add-zero}
 use native.Mathlib.Omega.{arith}
 use lib.ListN.{length, drop}
 use lib.Seq.{sets}
-use Rattle.text.specs.Lines.{hexOf}
-use Rattle.text.proofs.PieceLaws.{left-out, put-after, hex-length, hex-put, hex-all-put}
+use Rattle.replay_line.specs.Lines.{hexOf}
+use Rattle.replay_line.proofs.PieceLaws.{left-out, put-after, hex-length, hex-put, hex-all-put}
 use borrow.Author.Needs.{needs}
-use Rattle.text.proofs.Line.hex_bytes.Statement.{statement}
-use Rattle.text.proofs.Line.hex_bytes.Tie as tie
+use Rattle.replay_line.proofs.Line.hex_bytes.Statement.{statement}
+use Rattle.replay_line.proofs.Line.hex_bytes.Tie as tie
 
 abbrev Inv-loop : tie.InvT-loop
 Inv-loop part start bytes₀ i₀ bytes i = (sets bytes (start + 2 * i) (hexOf (drop i part)) ≡ sets bytes₀ start (hexOf part)) × (i ≤ length part)

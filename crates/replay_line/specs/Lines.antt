@@ -7,7 +7,7 @@ use lib.ListN.{length}
 use lib.Seq.{sets}
 use lib.Dec.{ltb}
 use Rattle.io.specs.Digits.{glyph, digits, Fewest}
-use Rattle.text.specs.declared.Line.{Line}
+use Rattle.replay_line.specs.declared.Line.{Line}
 
 -- a line with a piece after it; a piece that does not fit into 8,200 bytes is left out
 unfoldable pub withPiece : Line → List ℕ → Line

@@ -4,7 +4,7 @@ ghost use mathlib.Core.Path.{_≡_};
 ghost use Prim.Native.Nat.{_-_, _<_, min, max};
 ghost use lib.ListN.{replicate};
 ghost use Rattle.io.specs.Digits.{glyph};
-ghost use Rattle.text.specs.Lines.{withPiece, hexOf, WithNumber};
+ghost use Rattle.replay_line.specs.Lines.{withPiece, hexOf, WithNumber};
 use libc::STDOUT_FILENO;
 
 // A line so far: the first `len` of the bytes.

@@ -1,9 +1,9 @@
--- `text::Line::hex` meets its contract: the digits are put as a word. Assumes nothing.
+-- `replay_line::Line::hex` meets its contract: the digits are put as a word. Assumes nothing.
 use mathlib.Core.Path.{ap, _∙_}
-use Rattle.text.specs.Lines.{withPiece}
+use Rattle.replay_line.specs.Lines.{withPiece}
 use borrow.Author.Needs.{needs}
-use Rattle.text.proofs.Line.hex.Statement.{statement}
-use Rattle.text.proofs.Line.hex.Tie as tie
+use Rattle.replay_line.proofs.Line.hex.Statement.{statement}
+use Rattle.replay_line.proofs.Line.hex.Tie as tie
 
 hex-requires : tie.Need-hex-requires
 hex-requires c κs = search needs

@@ -1,14 +1,14 @@
--- `text::Line::word` meets its contract: the word fits, and its first i bytes are put. Assumes nothing.
+-- `replay_line::Line::word` meets its contract: the word fits, and its first i bytes are put. Assumes nothing.
 use mathlib.Core.Path.{_≡_, refl, sym, _∙_}
 use Prim.Native.Nat.{_+_, _-_, _≤_}
 use native.Mathlib.Nat.{add-zero}
 use native.Mathlib.Omega.{arith}
 use lib.ListN.{length, drop}
 use lib.Seq.{sets}
-use Rattle.text.proofs.PieceLaws.{left-out, put-after, byte-put, bytes-put}
+use Rattle.replay_line.proofs.PieceLaws.{left-out, put-after, byte-put, bytes-put}
 use borrow.Author.Needs.{needs}
-use Rattle.text.proofs.Line.word.Statement.{statement}
-use Rattle.text.proofs.Line.word.Tie as tie
+use Rattle.replay_line.proofs.Line.word.Statement.{statement}
+use Rattle.replay_line.proofs.Line.word.Tie as tie
 
 abbrev Inv-loop : tie.InvT-loop
 Inv-loop word start bytes₀ i₀ bytes i = (sets bytes (start + i) (drop i word) ≡ sets bytes₀ start word) × (i ≤ length word)

@@ -6,8 +6,8 @@ use native.Mathlib.Nat.{pow-le-pow-right}
 use native.Mathlib.Omega.{arith}
 use Rattle.laws.proofs.Side.{side}
 use Rattle.io.specs.Digits.{digits, Fewest}
-use Rattle.text.specs.declared.Line.{Line}
-use Rattle.text.specs.Lines.{withPiece, WithNumber}
+use Rattle.replay_line.specs.declared.Line.{Line}
+use Rattle.replay_line.specs.Lines.{withPiece, WithNumber}
 
 module _ (base least n : ℕ) (some : 0 < base) where
   -- more digits than k are not the fewest where k do

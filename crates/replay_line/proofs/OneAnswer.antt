@@ -2,12 +2,12 @@
 use mathlib.Core.Path.{_≡_}
 use native.Mathlib.Omega.{arith}
 use Rattle.laws.proofs.OneAnswer.{no-second-answer}
-use Rattle.text.proofs.PlaceLaws.{one-number}
-use Rattle.text.proofs.empty.Reads as empty
-use Rattle.text.proofs.Line.word.Reads as word
-use Rattle.text.proofs.Line.hex_bytes.Reads as hex-bytes
-use Rattle.text.proofs.Line.hex.Reads as hex
-use Rattle.text.proofs.Line.decimal.Reads as decimal
+use Rattle.replay_line.proofs.PlaceLaws.{one-number}
+use Rattle.replay_line.proofs.empty.Reads as empty
+use Rattle.replay_line.proofs.Line.word.Reads as word
+use Rattle.replay_line.proofs.Line.hex_bytes.Reads as hex-bytes
+use Rattle.replay_line.proofs.Line.hex.Reads as hex
+use Rattle.replay_line.proofs.Line.decimal.Reads as decimal
 
 pub empty-once : (κs : _) (args : _) (r r′ : _) (exit exit′ : _) → empty.Learnt κs args r exit → empty.Learnt κs args r′ exit′ → r ≡ r′
 empty-once κs args r r′ exit exit′ = no-second-answer

@@ -1,9 +1,9 @@
--- `text::write_first` is safe. Assumes nothing.
+-- `replay_line::write_first` is safe. Assumes nothing.
 use native.Mathlib.Omega.{arith}
 use lib.ListN.{length-take}
 use borrow.Author.Needs.{needs}
-use Rattle.text.proofs.write_first.Statement.{statement}
-use Rattle.text.proofs.write_first.Tie as tie
+use Rattle.replay_line.proofs.write_first.Statement.{statement}
+use Rattle.replay_line.proofs.write_first.Tie as tie
 
 returns : tie.Need-returns
 returns c = search needs
