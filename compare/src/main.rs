@@ -7,9 +7,9 @@
 mod clock;
 mod damage;
 mod hex;
-mod lent;
 mod panics;
 mod random;
+mod reply;
 mod shrink;
 
 mod masks {
@@ -55,6 +55,7 @@ mod containers {
     pub mod compare;
     pub mod damage;
     pub mod domain;
+    pub mod expected;
     pub mod exports;
     pub mod film;
     pub mod generate;
@@ -64,7 +65,6 @@ mod containers {
     pub mod mistakes;
     pub mod original;
     pub mod outputs;
-    pub mod owed;
     pub mod record;
     pub mod rules;
     pub mod samples;

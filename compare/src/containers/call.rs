@@ -2,7 +2,7 @@
 
 use std::fmt;
 
-use super::exports::{EXTRACT_WORDS, How};
+use super::exports::{How, KeyBytes, ReadingBytes};
 use crate::hex::hex;
 use crate::random::Random;
 
@@ -25,21 +25,19 @@ const EVERY: usize = 2 * KEYS.len() * FALLBACKS.len() * ROOMS.len() * ROOMS.len(
 
 #[derive(Clone)]
 pub struct Call {
-    /// Chosen, where it is not 0.
+    /// Audio is taken, where it is not 0.
     pub audio: u8,
+    /// The fields of the reading that are not looked at.
+    pub unread: [u8; 3],
     /// The key counts, where it is not 0.
     pub keyed: u8,
     pub key: u64,
     /// Bits of the key that do not count: the call is made again with them turned, and must do the same.
     pub idle: u64,
     pub fallback: Vec<u8>,
-    pub video: Room,
-    pub sound: Room,
-    pub list: Room,
-    /// Words of a report past its fixed ones.
-    pub longer: usize,
-    /// The words of a report that is too short.
-    pub short: usize,
+    pub video_room: Room,
+    pub audio_room: Room,
+    pub list_room: Room,
 }
 
 /// How much room there is for what needs some.
@@ -82,15 +80,14 @@ impl Call {
     pub fn plain(audio: u8) -> Call {
         Call {
             audio,
+            unread: [0; 3],
             keyed: 0,
             key: 0,
             idle: 0,
             fallback: Vec::new(),
-            video: Room::Exact,
-            sound: Room::Exact,
-            list: Room::Exact,
-            longer: 0,
-            short: 0,
+            video_room: Room::Exact,
+            audio_room: Room::Exact,
+            list_room: Room::Exact,
         }
     }
 
@@ -99,26 +96,25 @@ impl Call {
         let (keyed, key) = key(random);
         Call {
             audio,
+            unread: random.number().to_le_bytes()[..3].try_into().expect("three of eight bytes"),
             keyed,
             key,
             idle: if random.one_in(4) { random.number() & IDLE } else { 0 },
             fallback: fallback(random),
-            video: Room::any(random),
-            sound: Room::any(random),
-            list: Room::any(random),
-            longer: random.pick(&[0, 0, 3]),
-            short: random.within(0..EXTRACT_WORDS as u64) as usize,
+            video_room: Room::any(random),
+            audio_room: Room::any(random),
+            list_room: Room::any(random),
         }
     }
 
     /// Calls of both audio choices; in the first both outputs have the room they need.
     pub fn some(random: &mut Random) -> Vec<Call> {
         let chosen = random.pick(&[1, 1, 1, 2, 255]);
-        let roomy = Call { video: Room::Exact, sound: Room::OneLong, ..Call::any(chosen, random) };
+        let roomy = Call { video_room: Room::Exact, audio_room: Room::OneLong, ..Call::any(chosen, random) };
         vec![roomy, Call::any(chosen, random), Call::any(0, random)]
     }
 
-    /// Audio chosen and not, each key, each fallback name, each room for video and each for sound: each with each.
+    /// Audio chosen and not, each key, each fallback name, each room for video and each for audio: each with each.
     /// The list, which is made by a call of its own, has the room of the video.
     pub fn every() -> Vec<Call> {
         (0..EVERY).map(Call::numbered).collect()
@@ -135,15 +131,14 @@ impl Call {
         let video = ROOMS[choice(ROOMS.len())];
         Call {
             audio: choice(2) as u8,
+            unread: [number as u8; 3],
             keyed: key.is_some().into(),
             key: key.unwrap_or(u64::MAX),
             idle: 0,
             fallback: vec![b'f'; FALLBACKS[choice(FALLBACKS.len())]],
-            video,
-            sound: ROOMS[choice(ROOMS.len())],
-            list: video,
-            longer: number % 2 * 3,
-            short: number % EXTRACT_WORDS,
+            video_room: video,
+            audio_room: ROOMS[choice(ROOMS.len())],
+            list_room: video,
         }
     }
 
@@ -156,9 +151,14 @@ impl Call {
         (self.keyed != 0).then_some(self.key)
     }
 
-    /// The same call in the words of the export; and once more where bits that do not count are turned.
+    pub fn reading(&self) -> ReadingBytes {
+        ReadingBytes { audio: self.audio, unread: self.unread }
+    }
+
+    /// The same call as the export takes it; and once more where bits that do not count are turned.
     pub fn ways(&self) -> Vec<How<'_>> {
-        let how = |key| How { audio: self.audio, keyed: self.keyed, key, fallback: &self.fallback };
+        let key = |number| KeyBytes { number, given: self.keyed };
+        let how = |number| How { reading: self.reading(), key: key(number), fallback: &self.fallback };
         let mut ways = vec![how(self.key)];
         if self.idle != 0 {
             ways.push(how(self.key ^ self.idle));
@@ -198,13 +198,13 @@ impl fmt::Display for Call {
         if !self.fallback.is_empty() {
             write!(f, ", fallback name {}", hex(&self.fallback))?;
         }
-        for (what, room) in [("video", self.video), ("sound", self.sound), ("the list", self.list)] {
+        for (what, room) in [("video", self.video_room), ("audio", self.audio_room), ("the list", self.list_room)] {
             if room != Room::Exact {
                 write!(f, ", room for {what}: {room}")?;
             }
         }
-        if self.longer != 0 {
-            write!(f, ", reports longer by {}", self.longer)?;
+        if self.unread != [0; 3] {
+            write!(f, ", fields that are not looked at {:?}", self.unread)?;
         }
         Ok(())
     }

@@ -8,12 +8,11 @@ use std::thread;
 use super::call::Call;
 use super::case::Case;
 use super::compare::{Difference, compare};
-use super::exports::all_with_null;
+use super::exports::both_with_null;
 use super::shrink::shrink;
 use super::tally::Tally;
 use super::{damage, generate, hostile, samples};
 use crate::hex::input;
-use crate::lent::SHORT;
 use crate::panics;
 use crate::random::Random;
 
@@ -183,11 +182,11 @@ impl Work<'_> {
     }
 }
 
-/// NULL with length 0 is a slice like any other: without a report the answer is 255, with one it is refusal 1.
+/// NULL with length 0 is a slice like any other, and is refused with 1.
 fn null_is_allowed() -> Result<(), Disagreement> {
-    match all_with_null() {
-        [SHORT, 1, SHORT, 1, 1] => Ok(()),
-        answers => Err(Disagreement { what: format!("at NULL the answers are {answers:?}"), smallest: None }),
+    match both_with_null() {
+        [1, 1] => Ok(()),
+        numbers => Err(Disagreement { what: format!("at NULL the numbers are {numbers:?}"), smallest: None }),
     }
 }
 

@@ -1,4 +1,4 @@
-//! One container on both sides: answers, reports, streams and lists.
+//! One container on both sides: replies, streams and lists.
 
 use std::fmt;
 
@@ -6,21 +6,21 @@ use super::answer::Refusal;
 use super::call::Call;
 use super::case::Case;
 use super::domain::{Domain, domain};
-use super::exports::{self, EXTRACT_WORDS, How, NAME, Record, Success};
+use super::expected::{Expected, expected, same_by_the_rules};
+use super::exports::{self, FilmReply, How, IN_FALLBACK, ListReply, NamePart, Record, Success};
 use super::original::Film;
 use super::outputs::{List, Output};
-use super::owed::{Owed, owed, same_by_the_rules};
 use super::rules::{self, Name, Reading};
 use super::tally::{Outcome, Seen, Sums};
 use crate::hex::hex;
-use crate::lent::{lend, lend_short};
+use crate::reply::same;
 
 /// The room that counts as needed where a container is refused, so that there is something that must stay.
 const REFUSED_BYTES: usize = 40;
 const REFUSED_RECORDS: usize = 3;
 
 pub enum Difference {
-    /// One of our calls does not do what it owes.
+    /// One of our calls does not do what is expected.
     Ours(String),
     /// The original does not do what document 01 says.
     Original(String),
@@ -45,10 +45,10 @@ pub fn compare(case: &Case) -> Result<Seen, Difference> {
         let reading = rules::read(case.container(), audio);
         let domain = domain(case.container(), &reading);
         for call in calls {
-            let owed = owed(case, call, &reading, domain).map_err(Difference::Original)?;
-            extraction(case, call, &owed, &reading, &mut seen.sums).map_err(Difference::Ours)?;
-            listing(case, call, &owed, &mut seen.sums).map_err(Difference::Ours)?;
-            same_by_the_rules(case, call, &owed, &reading).map_err(Difference::Original)?;
+            let expected = expected(case, call, &reading, domain).map_err(Difference::Original)?;
+            extraction(case, call, &expected, &reading, &mut seen.sums).map_err(Difference::Ours)?;
+            listing(case, call, &expected, &mut seen.sums).map_err(Difference::Ours)?;
+            same_by_the_rules(case, call, &expected, &reading).map_err(Difference::Original)?;
             seen.sums.calls += 1;
         }
         seen.outcomes.push(outcome(case, &reading, domain));
@@ -66,14 +66,14 @@ fn outcome(case: &Case, reading: &Reading, domain: Domain) -> Outcome {
     }
 }
 
-/// The report and both outputs of an extraction, for each way to make the call.
-fn extraction(case: &Case, call: &Call, owed: &Owed, reading: &Reading, sums: &mut Sums) -> Result<(), String> {
-    let owed = match owed {
-        Owed::Refused(refusal) => refused_extraction(call, *refusal),
-        Owed::Accepted(film) | Owed::PastTheEnd(film) => accepted_extraction(call, film, reading, sums),
+/// The reply and both outputs of an extraction, for each way to make the call.
+fn extraction(case: &Case, call: &Call, expected: &Expected, reading: &Reading, sums: &mut Sums) -> Result<(), String> {
+    let expected = match expected {
+        Expected::Refused(refusal) => refused_extraction(call, *refusal),
+        Expected::Accepted(film) | Expected::PastTheEnd(film) => accepted_extraction(call, film, reading, sums),
     };
     for how in call.ways() {
-        extract(case, call, how, &owed).map_err(|what| match how.key == call.key {
+        extract(case, call, how, &expected).map_err(|what| match how.key.number == call.key {
             true => format!("usm_extract: {what}"),
             false => format!("usm_extract, with bits of the key turned that do not count: {what}"),
         })?;
@@ -82,37 +82,37 @@ fn extraction(case: &Case, call: &Call, owed: &Owed, reading: &Reading, sums: &m
     Ok(())
 }
 
-/// What one extraction must leave: the report, and what stands in the outputs, each of so much room.
+/// What one extraction must leave: the reply, and what stands in the outputs, each of so much room.
 struct Extraction<'a> {
-    words: [u64; EXTRACT_WORDS],
-    /// Where there is one, its words above are 0.
-    name: Option<OwedName<'a>>,
+    reply: FilmReply,
+    /// Where there is one, its fields above are 0.
+    name: Option<ExpectedName<'a>>,
     rooms: [usize; 2],
     streams: [&'a [u8]; 2],
 }
 
-/// The original tells the bytes of a name, and the rules, where they accept, its words in the report.
-struct OwedName<'a> {
+/// The original gives the bytes of a name, and the rules, where they accept, its fields in the reply.
+struct ExpectedName<'a> {
     bytes: &'a [u8],
-    words: Option<[u64; 3]>,
+    part: Option<NamePart>,
 }
 
 fn refused_extraction(call: &Call, refusal: Refusal) -> Extraction<'static> {
-    let rooms = [call.video, call.sound].map(|room| room.of(REFUSED_BYTES));
-    Extraction { words: exports::refused_walk(refusal), name: None, rooms, streams: [&[], &[]] }
+    let rooms = [call.video_room, call.audio_room].map(|room| room.of(REFUSED_BYTES));
+    Extraction { reply: FilmReply::refused(refusal), name: None, rooms, streams: [&[], &[]] }
 }
 
 fn accepted_extraction<'a>(call: &Call, film: &'a Film, reading: &Reading, sums: &mut Sums) -> Extraction<'a> {
     let Film { header, video, audio, .. } = film;
-    let rooms = [call.video.of(video.len()), call.sound.of(audio.len())];
+    let rooms = [call.video_room.of(video.len()), call.audio_room.of(audio.len())];
     if rooms[0] < video.len() || rooms[1] < audio.len() {
         sums.outputs_too_short += 1;
-        let words = exports::outputs_too_short(video.len() as u64, audio.len() as u64);
-        return Extraction { words, name: None, rooms, streams: [&[], &[]] };
+        let reply = FilmReply::outputs_too_short(video.len(), audio.len());
+        return Extraction { reply, name: None, rooms, streams: [&[], &[]] };
     }
     sums.bytes += (video.len() + audio.len()) as u64;
-    let name = OwedName { bytes: &header.name, words: name_words(call, reading) };
-    Extraction { words: success(film).words(), name: Some(name), rooms, streams: [video, audio] }
+    let name = ExpectedName { bytes: &header.name, part: name_part(call, reading) };
+    Extraction { reply: success(film).reply(), name: Some(name), rooms, streams: [video, audio] }
 }
 
 fn success(film: &Film) -> Success {
@@ -120,102 +120,70 @@ fn success(film: &Film) -> Success {
         tracks: film.header.tracks,
         is_ivf: film.video_kind == "ivf",
         is_hca: film.audio_kind == "hca",
-        video_size: film.video.len() as u64,
-        audio_size: film.audio.len() as u64,
+        video_size: film.video.len(),
+        audio_size: film.audio.len(),
     }
 }
 
-fn name_words(call: &Call, reading: &Reading) -> Option<[u64; 3]> {
+fn name_part(call: &Call, reading: &Reading) -> Option<NamePart> {
     Some(match reading.answer.as_ref().ok()?.name {
-        Name::Part { start, length } => [0, start, length],
-        Name::Fallback => [1, 0, call.fallback.len() as u64],
+        Name::Part { start, length } => NamePart { source: 0, start: start as usize, length: length as usize },
+        Name::Fallback => NamePart { source: IN_FALLBACK, start: 0, length: call.fallback.len() },
     })
 }
 
-/// One extraction with its report, and one whose report is too short.
-fn extract(case: &Case, call: &Call, how: How, owed: &Extraction) -> Result<(), String> {
-    let [mut video, mut sound] = owed.rooms.map(Output::new);
-    lend_short(call.short, |report| exports::extract(case.container(), how, video.lent(), sound.lent(), report))?;
-    video.holds(&[]).map_err(|what| format!("with a short report, video: {what}"))?;
-    sound.holds(&[]).map_err(|what| format!("with a short report, sound: {what}"))?;
-    let (answer, words) = lend(EXTRACT_WORDS + call.longer, |report| {
-        exports::extract(case.container(), how, video.lent(), sound.lent(), report)
-    })?;
-    match &owed.name {
-        None => same_report(answer, words, owed.words)?,
+fn extract(case: &Case, call: &Call, how: How, expected: &Extraction) -> Result<(), String> {
+    let [mut video, mut audio] = expected.rooms.map(Output::new);
+    let found = exports::extract(case.container(), how, video.lent(), audio.lent());
+    match &expected.name {
+        None => same(found, expected.reply)?,
         Some(name) => {
-            same_report(answer, without_name(words), owed.words)?;
-            same_name(case, call, &words[NAME], name)?;
+            same(found.without_name(), expected.reply)?;
+            same_name(case, call, found.name(), name)?;
         }
     }
-    video.holds(owed.streams[0]).map_err(|what| format!("video: {what}"))?;
-    sound.holds(owed.streams[1]).map_err(|what| format!("sound: {what}"))
+    video.holds(expected.streams[0]).map_err(|what| format!("video: {what}"))?;
+    audio.holds(expected.streams[1]).map_err(|what| format!("audio: {what}"))
 }
 
-fn without_name(mut words: [u64; EXTRACT_WORDS]) -> [u64; EXTRACT_WORDS] {
-    words[NAME].fill(0);
-    words
-}
-
-fn same_name(case: &Case, call: &Call, words: &[u64], owed: &OwedName) -> Result<(), String> {
-    if name(case, call, words) != Some(owed.bytes) {
-        return Err(format!("the words of the name are {words:?}, and the original's name is {}", hex(owed.bytes)));
+fn same_name(case: &Case, call: &Call, found: NamePart, expected: &ExpectedName) -> Result<(), String> {
+    if name(case, call, found) != Some(expected.bytes) {
+        return Err(format!("the name is {found:?}, and the original's is {}", hex(expected.bytes)));
     }
-    match owed.words {
-        Some(by_the_rules) if words != by_the_rules => {
-            Err(format!("the words of the name are {words:?}, and {by_the_rules:?} are owed"))
+    match expected.part {
+        Some(by_the_rules) if found != by_the_rules => {
+            Err(format!("the name is {found:?}, and {by_the_rules:?} is expected"))
         }
         _ => Ok(()),
     }
 }
 
 /// The bytes of a name: a part of the fallback name or of the container.
-fn name<'a>(case: &'a Case, call: &'a Call, words: &[u64]) -> Option<&'a [u8]> {
-    let whole = if words[0] == 1 { &call.fallback } else { case.container() };
-    whole.get(words[1] as usize..)?.get(..words[2] as usize)
+fn name<'a>(case: &'a Case, call: &'a Call, part: NamePart) -> Option<&'a [u8]> {
+    let whole = if part.source == IN_FALLBACK { &call.fallback } else { case.container() };
+    whole.get(part.start..)?.get(..part.length)
 }
 
-/// The count of the chunks, and their list.
-fn listing(case: &Case, call: &Call, owed: &Owed, sums: &mut Sums) -> Result<(), String> {
-    let (room, words, records) = match owed {
-        Owed::Refused(refusal) => (call.list.of(REFUSED_RECORDS), exports::refused_walk(*refusal), Vec::new()),
-        Owed::Accepted(film) | Owed::PastTheEnd(film) => {
-            let (count, room) = (film.chunks.len(), call.list.of(film.chunks.len()));
+/// The reply and the list of a listing.
+fn listing(case: &Case, call: &Call, expected: &Expected, sums: &mut Sums) -> Result<(), String> {
+    let (room, reply, records) = match expected {
+        Expected::Refused(refusal) => (call.list_room.of(REFUSED_RECORDS), ListReply::refused(*refusal), Vec::new()),
+        Expected::Accepted(film) | Expected::PastTheEnd(film) => {
+            let (count, room) = (film.chunks.len(), call.list_room.of(film.chunks.len()));
             if room < count {
                 sums.lists_too_short += 1;
-                (room, exports::list_too_short(count as u64), Vec::new())
+                (room, ListReply::too_short(count), Vec::new())
             } else {
                 sums.chunks += count as u64;
-                (room, exports::counted(count as u64), film.chunks.iter().map(exports::record).collect())
+                (room, ListReply::counted(count), film.chunks.iter().map(exports::record).collect())
             }
         }
     };
-    count(case, call, room, words).map_err(|what| format!("usm_chunks, room for {room}: {what}"))?;
-    list(case, call, room, words[0], &records).map_err(|what| format!("usm_list, room for {room}: {what}"))
+    list(case, call, room, reply, &records).map_err(|what| format!("usm_list, room for {room}: {what}"))
 }
 
-fn count<const WORDS: usize>(case: &Case, call: &Call, room: usize, owed: [u64; WORDS]) -> Result<(), String> {
-    let count = |report: &mut [u64]| exports::chunks(case.container(), call.audio, room, report);
-    lend_short(call.short % WORDS, count)?;
-    let (answer, words) = lend(WORDS + call.longer, count)?;
-    same_report(answer, words, owed)
-}
-
-fn list(case: &Case, call: &Call, room: usize, number: u64, records: &[Record]) -> Result<(), String> {
+fn list(case: &Case, call: &Call, room: usize, expected: ListReply, records: &[Record]) -> Result<(), String> {
     let mut list = List::new(room);
-    let answer = exports::list(case.container(), call.audio, list.lent());
-    if u64::from(answer) != number {
-        return Err(format!("the answer is {answer}, and {number} is owed"));
-    }
+    same(exports::list(case.container(), call.reading(), list.lent()), expected)?;
     list.holds(records)
-}
-
-fn same_report<const WORDS: usize>(answer: u8, found: [u64; WORDS], owed: [u64; WORDS]) -> Result<(), String> {
-    if found != owed {
-        return Err(format!("the report is {found:?}, and {owed:?} is owed"));
-    }
-    if u64::from(answer) != owed[0] {
-        return Err(format!("the answer is {answer}, and word 0 of the report {}", owed[0]));
-    }
-    Ok(())
 }

@@ -1,17 +1,55 @@
-//! The three functions of libusm.a that read containers, as include/usm.h declares them, behind safe calls; and
-//! the words of their reports.
+//! The two functions of libusm.a that read containers, as include/usm.h declares them, behind safe calls; and what
+//! they reply.
 
-use std::ops::Range;
 use std::ptr::{null, null_mut};
 
 use super::answer::{Chunk, Kind, Refusal, Tracks};
 
-/// The words that a call fixes. With fewer it gives 255 and writes nothing.
-pub const EXTRACT_WORDS: usize = 16;
-pub const CHUNKS_WORDS: usize = 5;
+#[repr(C)]
+#[derive(Clone, Copy)]
+pub struct ReadingBytes {
+    /// Audio is taken, where it is not 0.
+    pub audio: u8,
+    /// Not looked at: channel, payloads and tables of usm.h.
+    pub unread: [u8; 3],
+}
 
-/// The words of an extraction's report that tell the name: whether it is the fallback, where it starts, how long it is.
-pub const NAME: Range<usize> = 4..7;
+#[repr(C)]
+#[derive(Clone, Copy)]
+pub struct KeyBytes {
+    pub number: u64,
+    /// There is a key, where it is not 0.
+    pub given: u8,
+}
+
+#[repr(C)]
+#[derive(Clone, Copy, Default, PartialEq, Eq, Debug)]
+pub struct FilmReply {
+    pub refused_at: usize,
+    pub name_start: usize,
+    pub name_length: usize,
+    pub video_size: usize,
+    pub audio_size: usize,
+    pub video_codec: u32,
+    pub audio_codec: u32,
+    pub number: u8,
+    pub unknown_type: u8,
+    pub name_source: u8,
+    pub has_audio: u8,
+    pub has_video_codec: u8,
+    pub has_audio_codec: u8,
+    pub video_kind: u8,
+    pub audio_kind: u8,
+}
+
+#[repr(C)]
+#[derive(Clone, Copy, Default, PartialEq, Eq, Debug)]
+pub struct ListReply {
+    pub refused_at: usize,
+    pub count: usize,
+    pub number: u8,
+    pub unknown_type: u8,
+}
 
 /// A record of the list. The padding is named, so that it can be seen to stay where a record stays.
 #[repr(C)]
@@ -29,161 +67,144 @@ unsafe extern "C" {
     fn usm_extract(
         container: *const u8,
         len: usize,
-        audio: u8,
-        keyed: u8,
-        key: u64,
+        reading: ReadingBytes,
+        key: KeyBytes,
         fallback: *const u8,
         fallback_len: usize,
         video: *mut u8,
         video_len: usize,
-        sound: *mut u8,
-        sound_len: usize,
-        report: *mut u64,
-        words: usize,
-    ) -> u8;
-    fn usm_chunks(container: *const u8, len: usize, audio: u8, room: usize, report: *mut u64, words: usize) -> u8;
-    fn usm_list(container: *const u8, len: usize, audio: u8, list: *mut Record, room: usize) -> u8;
+        audio: *mut u8,
+        audio_len: usize,
+    ) -> FilmReply;
+    fn usm_list(container: *const u8, len: usize, reading: ReadingBytes, list: *mut Record, room: usize) -> ListReply;
 }
 
-/// What an extraction is told beside the container and the outputs.
+/// What an extraction is given beside the container and the outputs.
 #[derive(Clone, Copy)]
 pub struct How<'a> {
-    /// Chosen, where it is not 0.
-    pub audio: u8,
-    /// The key counts, where it is not 0.
-    pub keyed: u8,
-    pub key: u64,
+    pub reading: ReadingBytes,
+    pub key: KeyBytes,
     pub fallback: &'a [u8],
 }
 
 // SAFETY, for the calls below: each pointer and length are those of one slice, or of the room of a new vector, lent
 // to this call.
 
-pub fn extract(container: &[u8], how: How, video: &mut [u8], sound: &mut [u8], report: &mut [u64]) -> u8 {
-    let (video, sound) = ((video.as_mut_ptr(), video.len()), (sound.as_mut_ptr(), sound.len()));
-    unsafe { extract_to(container, how, video, sound, report) }
+pub fn extract(container: &[u8], how: How, video: &mut [u8], audio: &mut [u8]) -> FilmReply {
+    let (video, audio) = ((video.as_mut_ptr(), video.len()), (audio.as_mut_ptr(), audio.len()));
+    unsafe { extract_to(container, how, video, audio) }
 }
 
 /// Extracts to new outputs of these sizes, and gives them back. They are not cleared before, as those of C's `malloc`
 /// and of the original are not.
-pub fn extract_to_new(container: &[u8], how: How, sizes: [usize; 2], report: &mut [u64]) -> u8 {
-    let [mut video, mut sound] = sizes.map(Vec::<u8>::with_capacity);
-    unsafe { extract_to(container, how, (video.as_mut_ptr(), sizes[0]), (sound.as_mut_ptr(), sizes[1]), report) }
+pub fn extract_to_new(container: &[u8], how: How, sizes: [usize; 2]) -> FilmReply {
+    let [mut video, mut audio] = sizes.map(Vec::<u8>::with_capacity);
+    unsafe { extract_to(container, how, (video.as_mut_ptr(), sizes[0]), (audio.as_mut_ptr(), sizes[1])) }
 }
 
-unsafe fn extract_to(
-    container: &[u8],
-    how: How,
-    video: (*mut u8, usize),
-    sound: (*mut u8, usize),
-    report: &mut [u64],
-) -> u8 {
+unsafe fn extract_to(container: &[u8], how: How, video: (*mut u8, usize), audio: (*mut u8, usize)) -> FilmReply {
     unsafe {
         usm_extract(
             container.as_ptr(),
             container.len(),
-            how.audio,
-            how.keyed,
+            how.reading,
             how.key,
             how.fallback.as_ptr(),
             how.fallback.len(),
             video.0,
             video.1,
-            sound.0,
-            sound.1,
-            report.as_mut_ptr(),
-            report.len(),
+            audio.0,
+            audio.1,
         )
     }
 }
 
-pub fn chunks(container: &[u8], audio: u8, room: usize, report: &mut [u64]) -> u8 {
-    unsafe { usm_chunks(container.as_ptr(), container.len(), audio, room, report.as_mut_ptr(), report.len()) }
+pub fn list(container: &[u8], reading: ReadingBytes, list: &mut [Record]) -> ListReply {
+    unsafe { usm_list(container.as_ptr(), container.len(), reading, list.as_mut_ptr(), list.len()) }
 }
 
-pub fn list(container: &[u8], audio: u8, list: &mut [Record]) -> u8 {
-    unsafe { usm_list(container.as_ptr(), container.len(), audio, list.as_mut_ptr(), list.len()) }
-}
-
-/// All three with NULL for every slice of length 0, which usm.h allows; those with a report without one, then with one.
-pub fn all_with_null() -> [u8; 5] {
-    let mut report = [0; EXTRACT_WORDS];
-    let (lent, words) = (report.as_mut_ptr(), report.len());
-    let extract = |report, words| {
-        // SAFETY: nothing is read or written through a pointer with length 0.
-        unsafe { usm_extract(null(), 0, 1, 1, 0, null(), 0, null_mut(), 0, null_mut(), 0, report, words) }
-    };
-    // SAFETY: as above.
-    let chunks = |report, words| unsafe { usm_chunks(null(), 0, 1, 0, report, words) };
-    [
-        extract(null_mut(), 0),
-        extract(lent, words),
-        chunks(null_mut(), 0),
-        chunks(lent, words),
-        // SAFETY: as above.
-        unsafe { usm_list(null(), 0, 1, null_mut(), 0) },
-    ]
-}
-
-/// What an accepted extraction reports, but for the name.
-pub struct Success {
-    pub tracks: Tracks,
-    pub is_ivf: bool,
-    pub is_hca: bool,
-    pub video_size: u64,
-    pub audio_size: u64,
-}
-
-impl Success {
-    /// Those of the name are 0.
-    pub fn words(&self) -> [u64; EXTRACT_WORDS] {
-        let Tracks { has_audio, video_codec, audio_codec } = self.tracks;
-        let codec = |codec: Option<u32>| [codec.is_some().into(), codec.unwrap_or(0).into()];
-        let [has_video_codec, video_codec] = codec(video_codec);
-        let [has_audio_codec, audio_codec] = codec(audio_codec);
+/// The numbers of both with NULL for every slice of length 0, which usm.h allows.
+pub fn both_with_null() -> [u8; 2] {
+    let (reading, key) = (ReadingBytes { audio: 1, unread: [0; 3] }, KeyBytes { number: 0, given: 1 });
+    // SAFETY: nothing is read or written through a pointer with length 0.
+    unsafe {
         [
-            0,
-            0,
-            0,
-            0,
-            0,
-            0,
-            0,
-            has_audio.into(),
-            has_video_codec,
-            video_codec,
-            has_audio_codec,
-            audio_codec,
-            self.is_ivf.into(),
-            self.is_hca.into(),
-            self.video_size,
-            self.audio_size,
+            usm_extract(null(), 0, reading, key, null(), 0, null_mut(), 0, null_mut(), 0).number,
+            usm_list(null(), 0, reading, null_mut(), 0).number,
         ]
     }
 }
 
-/// The report of an accepted listing.
-pub fn counted(count: u64) -> [u64; CHUNKS_WORDS] {
-    [0, 0, 0, 0, count]
+/// What is known of an accepted film, but for the name.
+pub struct Success {
+    pub tracks: Tracks,
+    pub is_ivf: bool,
+    pub is_hca: bool,
+    pub video_size: usize,
+    pub audio_size: usize,
 }
 
-/// The report of a refusal, with its two values: the type of 8, the sizes of 12, the count of 13.
-fn refused<const WORDS: usize>(number: u8, place: u64, values: [u64; 2]) -> [u64; WORDS] {
-    let mut words = [0; WORDS];
-    words[..4].copy_from_slice(&[number.into(), place, values[0], values[1]]);
-    words
+/// The fields of the name in a reply.
+#[derive(Clone, Copy, PartialEq, Eq, Debug)]
+pub struct NamePart {
+    pub source: u8,
+    pub start: usize,
+    pub length: usize,
 }
 
-pub fn refused_walk<const WORDS: usize>(refusal: Refusal) -> [u64; WORDS] {
-    refused(refusal.number, refusal.place, [refusal.column_type.into(), 0])
+pub const IN_FALLBACK: u8 = 1;
+
+impl Success {
+    /// The reply. The fields of the name are 0.
+    pub fn reply(&self) -> FilmReply {
+        let Tracks { has_audio, video_codec, audio_codec } = self.tracks;
+        FilmReply {
+            video_size: self.video_size,
+            audio_size: self.audio_size,
+            video_codec: video_codec.unwrap_or(0),
+            audio_codec: audio_codec.unwrap_or(0),
+            has_audio: has_audio.into(),
+            has_video_codec: video_codec.is_some().into(),
+            has_audio_codec: audio_codec.is_some().into(),
+            video_kind: self.is_ivf.into(),
+            audio_kind: self.is_hca.into(),
+            ..FilmReply::default()
+        }
+    }
 }
 
-pub fn outputs_too_short(video_size: u64, audio_size: u64) -> [u64; EXTRACT_WORDS] {
-    refused(12, 0, [video_size, audio_size])
+impl FilmReply {
+    pub fn refused(refusal: Refusal) -> FilmReply {
+        let Refusal { number, place, column_type } = refusal;
+        FilmReply { number, refused_at: place as usize, unknown_type: column_type, ..FilmReply::default() }
+    }
+
+    pub fn outputs_too_short(video_size: usize, audio_size: usize) -> FilmReply {
+        FilmReply { number: 12, video_size, audio_size, ..FilmReply::default() }
+    }
+
+    pub fn name(&self) -> NamePart {
+        NamePart { source: self.name_source, start: self.name_start, length: self.name_length }
+    }
+
+    pub fn without_name(self) -> FilmReply {
+        FilmReply { name_source: 0, name_start: 0, name_length: 0, ..self }
+    }
 }
 
-pub fn list_too_short(count: u64) -> [u64; CHUNKS_WORDS] {
-    refused(13, 0, [count, 0])
+impl ListReply {
+    pub fn counted(count: usize) -> ListReply {
+        ListReply { count, ..ListReply::default() }
+    }
+
+    pub fn too_short(count: usize) -> ListReply {
+        ListReply { number: 13, count, ..ListReply::default() }
+    }
+
+    pub fn refused(refusal: Refusal) -> ListReply {
+        let Refusal { number, place, column_type } = refusal;
+        ListReply { number, refused_at: place as usize, unknown_type: column_type, ..ListReply::default() }
+    }
 }
 
 /// The record of a chunk; its padding is not looked at.

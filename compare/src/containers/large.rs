@@ -1,4 +1,4 @@
-//! Large containers for the clock: chunks of one length, by turns video and ADX sound.
+//! Large containers for the clock: chunks of one length, by turns video and ADX audio.
 
 use super::film::{Chunk, Film, Tables};
 use super::rules::{INSIDE, SFA, SFV};
@@ -28,8 +28,8 @@ fn container(bytes: usize, payload: usize, count: usize) -> Vec<u8> {
     let mut film = Film::with_header(&tables, || 0);
     film.bytes.reserve(bytes);
     let video = Chunk::new(SFV, &Random(8).bytes(payload));
-    let sound = Chunk { letters: *SFA, ..video.clone() };
-    [&video, &sound].into_iter().cycle().take(count).for_each(|chunk| film.chunk(chunk));
+    let audio = Chunk { letters: *SFA, ..video.clone() };
+    [&video, &audio].into_iter().cycle().take(count).for_each(|chunk| film.chunk(chunk));
     let rest = bytes - film.bytes.len() - BEFORE_PAYLOAD;
     film.chunk(&Chunk::new(b"@SBT", &vec![0; rest]));
     film.bytes

@@ -22,13 +22,13 @@ impl Output {
     /// The output begins with a stream, and nothing else has changed.
     pub fn holds(&self, stream: &[u8]) -> Result<(), String> {
         let end = GUARD + stream.len();
-        let owed = |at: usize| if (GUARD..end).contains(&at) { stream[at - GUARD] } else { mark(at) };
-        match (0..self.area.len()).find(|&at| self.area[at] != owed(at)) {
+        let expected = |at: usize| if (GUARD..end).contains(&at) { stream[at - GUARD] } else { mark(at) };
+        match (0..self.area.len()).find(|&at| self.area[at] != expected(at)) {
             None => Ok(()),
             Some(at) => {
-                let (place, found, owed) = (at as isize - GUARD as isize, self.area[at], owed(at));
+                let (place, found, expected) = (at as isize - GUARD as isize, self.area[at], expected(at));
                 let room = self.area.len() - 2 * GUARD;
-                Err(format!("byte {place} of {room} is {found:02X}, and {owed:02X} is owed"))
+                Err(format!("byte {place} of {room} is {found:02X}, and {expected:02X} is expected"))
             }
         }
     }
@@ -61,11 +61,11 @@ impl List {
         let end = GUARD_RECORDS + records.len();
         for (at, found) in self.area.iter().enumerate() {
             let written = (GUARD_RECORDS..end).contains(&at);
-            let owed = if written { records[at - GUARD_RECORDS] } else { blank(at) };
-            let same = *found == Record { padding: if written { found.padding } else { owed.padding }, ..owed };
+            let expected = if written { records[at - GUARD_RECORDS] } else { blank(at) };
+            let same = *found == Record { padding: if written { found.padding } else { expected.padding }, ..expected };
             if !same {
                 let (index, room) = (at as isize - GUARD_RECORDS as isize, self.area.len() - 2 * GUARD_RECORDS);
-                return Err(format!("record {index} of {room} is {}, and {} is owed", words(found), words(&owed)));
+                return Err(format!("record {index} of {room} is {}, and {} is expected", words(found), words(&expected)));
             }
         }
         Ok(())

@@ -47,11 +47,10 @@ fn plainer(call: &Call) -> Vec<Call> {
     with(!call.fallback.is_empty(), Call { fallback: Vec::new(), ..call.clone() });
     with(call.audio > 1, Call { audio: 1, ..call.clone() });
     with(call.keyed > 1, Call { keyed: 1, ..call.clone() });
-    with(call.video != Room::Exact, Call { video: Room::Exact, ..call.clone() });
-    with(call.sound != Room::Exact, Call { sound: Room::Exact, ..call.clone() });
-    with(call.list != Room::Exact, Call { list: Room::Exact, ..call.clone() });
-    with(call.longer != 0, Call { longer: 0, ..call.clone() });
-    with(call.short != 0, Call { short: 0, ..call.clone() });
+    with(call.unread != [0; 3], Call { unread: [0; 3], ..call.clone() });
+    with(call.video_room != Room::Exact, Call { video_room: Room::Exact, ..call.clone() });
+    with(call.audio_room != Room::Exact, Call { audio_room: Room::Exact, ..call.clone() });
+    with(call.list_room != Room::Exact, Call { list_room: Room::Exact, ..call.clone() });
     calls
 }
 

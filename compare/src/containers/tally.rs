@@ -105,7 +105,7 @@ impl Tally {
         }
         line("readings", self.inside() + self.left_out + self.outside.iter().sum::<u64>(), "audio chosen, and not");
         line("containers", self.containers, "");
-        line("calls", self.sums.calls, "each an extraction, a count and a list");
+        line("calls", self.sums.calls, "each an extraction and a listing");
         line("extractions", self.sums.extractions, "some again, with bits of the key turned that do not count");
         line("refused 12", self.sums.outputs_too_short, "with the sizes of the original's streams");
         line("refused 13", self.sums.lists_too_short, "with the count of the original's chunks");

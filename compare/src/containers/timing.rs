@@ -5,7 +5,7 @@ use std::io::Cursor;
 
 use oracle::usm::extractor::extract_usm_to_memory;
 
-use super::exports::{self, EXTRACT_WORDS, How, outputs_too_short};
+use super::exports::{self, FilmReply, How, KeyBytes, ReadingBytes};
 use super::large::{LONG, with_payloads};
 use crate::clock::{clock, median};
 
@@ -44,8 +44,8 @@ pub fn run() {
 
 /// All four in turns, forwards and backwards.
 fn medians(name: &'static str, container: &[u8], key: Option<u64>) -> Medians {
-    let [video, sound] = measure(container);
-    let (mut video, mut sound) = (vec![1; video], vec![1; sound]);
+    let [video, audio] = measure(container);
+    let (mut video, mut audio) = (vec![1; video], vec![1; audio]);
     let mut samples = [const { Vec::new() }; 4];
     for turn in 0..SAMPLES {
         for step in 0..4 {
@@ -53,7 +53,7 @@ fn medians(name: &'static str, container: &[u8], key: Option<u64>) -> Medians {
             samples[who].push(match who {
                 0 => clock(1, || allocated(container, key, measure(container))),
                 1 => clock(1, || allocated(container, key, [container.len(); 2])),
-                2 => clock(1, || lent(container, key, &mut video, &mut sound)),
+                2 => clock(1, || lent(container, key, &mut video, &mut audio)),
                 _ => clock(1, || rust(container, key)),
             });
         }
@@ -64,33 +64,32 @@ fn medians(name: &'static str, container: &[u8], key: Option<u64>) -> Medians {
 
 /// As the original does: allocated, filled and given back.
 fn allocated(container: &[u8], key: Option<u64>, sizes: [usize; 2]) {
-    let mut report = [0; EXTRACT_WORDS];
-    accepted(exports::extract_to_new(black_box(container), how(key), sizes, &mut report));
-    black_box(report);
+    accepted(exports::extract_to_new(black_box(container), how(key), sizes));
 }
 
-fn lent(container: &[u8], key: Option<u64>, video: &mut [u8], sound: &mut [u8]) {
-    let mut report = [0; EXTRACT_WORDS];
-    accepted(exports::extract(black_box(container), how(key), video, sound, &mut report));
-    black_box(report);
+fn lent(container: &[u8], key: Option<u64>, video: &mut [u8], audio: &mut [u8]) {
+    accepted(exports::extract(black_box(container), how(key), video, audio));
 }
+
+/// Every payload is taken.
+pub const WITH_AUDIO: ReadingBytes = ReadingBytes { audio: 1, unread: [0; 3] };
 
 fn how(key: Option<u64>) -> How<'static> {
-    How { audio: 1, keyed: key.is_some().into(), key: key.unwrap_or(0), fallback: &[] }
+    let key = KeyBytes { number: key.unwrap_or(0), given: key.is_some().into() };
+    How { reading: WITH_AUDIO, key, fallback: &[] }
 }
 
 /// A container that is refused would be timed for nothing.
-fn accepted(answer: u8) {
-    assert!(answer == 0, "a container for the clock is refused with {answer}");
+fn accepted(reply: FilmReply) {
+    assert!(reply.number == 0, "a container for the clock has the reply {reply:?}");
+    black_box(reply);
 }
 
 /// Both sizes, by a call without outputs.
 pub fn measure(container: &[u8]) -> [usize; 2] {
-    let mut report = [0; EXTRACT_WORDS];
-    exports::extract(black_box(container), how(None), &mut [], &mut [], &mut report);
-    let [video, sound] = [report[2], report[3]];
-    assert!(report == outputs_too_short(video, sound), "a container for the clock is measured with {report:?}");
-    [video as usize, sound as usize]
+    let reply = exports::extract(black_box(container), how(None), &mut [], &mut []);
+    assert!(reply.number == 12, "a container for the clock is measured with {reply:?}");
+    [reply.video_size, reply.audio_size]
 }
 
 fn rust(container: &[u8], key: Option<u64>) {

@@ -4,9 +4,9 @@
 use std::hint::black_box;
 
 use super::answer::{Chunk, Kind};
-use super::exports::{self, CHUNKS_WORDS, Record};
+use super::exports::{self, ListReply, Record};
 use super::large::{LONG, SHORT, with_count};
-use super::timing::measure;
+use super::timing::{WITH_AUDIO, measure};
 use crate::clock::{clock, median};
 
 const COUNT: usize = 1000;
@@ -16,7 +16,7 @@ const CALLS: u32 = 50;
 /// Goes over the chunks of a container, with a list to fill.
 type Walk = fn(&[u8], &mut [Record]);
 
-const WALKS: [(&str, Walk); 3] = [("measure", sizes), ("usm_chunks", count), ("usm_list", list)];
+const WALKS: [(&str, Walk); 3] = [("measure", sizes), ("count", count), ("usm_list", list)];
 
 /// Times all, and prints the times.
 pub fn run() {
@@ -40,14 +40,14 @@ fn sizes(container: &[u8], _: &mut [Record]) {
     black_box(measure(container));
 }
 
+/// By a call without a list.
 fn count(container: &[u8], _: &mut [Record]) {
-    let mut report = [0; CHUNKS_WORDS];
-    exports::chunks(black_box(container), 1, usize::MAX, &mut report);
-    assert!(report == exports::counted(COUNT as u64 + 1), "a container for the clock is counted with {report:?}");
+    let reply = exports::list(black_box(container), WITH_AUDIO, &mut []);
+    assert!(reply == ListReply::too_short(COUNT + 1), "a container for the clock is counted with {reply:?}");
 }
 
 fn list(container: &[u8], records: &mut [Record]) {
-    let answer = exports::list(black_box(container), 1, records);
-    assert!(answer == 0, "a container for the clock is refused with {answer}");
+    let reply = exports::list(black_box(container), WITH_AUDIO, records);
+    assert!(reply == ListReply::counted(COUNT + 1), "a container for the clock is listed with {reply:?}");
     black_box(records);
 }

@@ -98,7 +98,7 @@ fn null_is_allowed() -> Result<u64, Disagreement> {
             key: 0,
             payload: Vec::new(),
             offset: 0,
-            what: format!("at NULL the answer is {answer}, and 0 is owed"),
+            what: format!("at NULL the answer is {answer}, and 0 is expected"),
         }),
     }
 }

@@ -1,40 +1,27 @@
-//! One table on both sides: the answer, the report, the cells and the bytes of their parts.
+//! One table on both sides: the reply, the cells and the bytes of their parts.
 
 use std::ops::Range;
 
 use super::answer::{Cell, Refusal};
 use super::case::Case;
-use super::exports::{self, CELL_WORDS, TABLE_WORDS};
+use super::exports::{self, CellReply, TableReply};
 use super::original::{self, Answer, Table};
 use super::queries::{self, Query};
 use super::tally::{Outcome, Seen};
 use super::{domain, header};
 use crate::hex::hex;
-use crate::lent::{lend, lend_short};
 use crate::panics::OVERFLOW;
+use crate::reply::same;
 
 /// Compares one case; gives what was seen, or the first difference.
 pub fn compare(case: &Case) -> Result<Seen, String> {
-    short_reports(case)?;
     match domain::refusal(case.slice(), case.place) {
         Some(Refusal::OverLimit) => refused(case, Refusal::OverLimit, Outcome::Outside(Refusal::OverLimit)),
         outside => asked(case, outside.is_some()),
     }
 }
 
-/// Every report that is too short, of both functions.
-fn short_reports(case: &Case) -> Result<(), String> {
-    for words in 0..TABLE_WORDS {
-        lend_short(words, |report| exports::table(case.slice(), case.place, report)).map_err(in_table)?;
-    }
-    for words in 0..CELL_WORDS {
-        lend_short(words, |report| exports::cell(case.slice(), case.place, b"a", 0, report))
-            .map_err(|what| format!("usm_cell: {what}"))?;
-    }
-    Ok(())
-}
-
-/// The original's answer is owed, and 9 where it panics. That it panics where the size is below 24, and nowhere else,
+/// The original's answer is expected, and 9 where it panics. That it panics where the size is below 24, and nowhere else,
 /// is looked at after our calls.
 fn asked(case: &Case, is_too_small: bool) -> Result<Seen, String> {
     let seen = match original::read(case.slice(), case.place) {
@@ -52,15 +39,14 @@ fn asked(case: &Case, is_too_small: bool) -> Result<Seen, String> {
     }
 }
 
-/// A refusal is owed, to the table and to every cell.
+/// A refusal is expected, of the table and of every cell.
 fn refused(case: &Case, refusal: Refusal, outcome: Outcome) -> Result<Seen, String> {
-    let words = [u64::from(refusal.number()), case.place as u64, u64::from(refusal.column_type()), 0, 0];
-    same_table(case, words)?;
+    let (refused_at, number, unknown_type) = (case.place, refusal.number(), refusal.column_type());
+    same_table(case, TableReply { refused_at, number, unknown_type, ..TableReply::default() })?;
     let mut seen = Seen::new(outcome);
     for query in queries::of_refused(case) {
-        let owed = [words[0], words[1], words[2], 0, 0, 0];
-        let found = cell_words(case, &query)?;
-        same_words(found, owed).map_err(|what| in_cell(&query, what))?;
+        let expected = CellReply { refused_at, number, unknown_type, ..CellReply::default() };
+        same(cell(case, &query), expected).map_err(|what| in_cell(&query, what))?;
         seen.refused_cells += 1;
     }
     Ok(seen)
@@ -68,11 +54,11 @@ fn refused(case: &Case, refusal: Refusal, outcome: Outcome) -> Result<Seen, Stri
 
 /// The original accepts. Its table has no columns, so their count is the header's.
 fn accepted(case: &Case, table: &Table) -> Result<Seen, String> {
-    let columns = header::COLUMNS.get(case.table());
-    same_table(case, [0, 0, 0, columns.into(), table.rows() as u64])?;
+    let columns = header::COLUMNS.get(case.table()) as usize;
+    same_table(case, TableReply { columns, rows: table.rows(), ..TableReply::default() })?;
     let mut seen = Seen::new(Outcome::Accepted);
     for query in queries::of_accepted(case, table) {
-        let found = cell_words(case, &query)?;
+        let found = cell(case, &query);
         match original::kept(&query.name) {
             Some(name) => {
                 let cell = table.cell(name, query.row);
@@ -85,78 +71,50 @@ fn accepted(case: &Case, table: &Table) -> Result<Seen, String> {
     Ok(seen)
 }
 
-fn in_table(what: String) -> String {
-    format!("usm_table: {what}")
-}
-
 fn in_cell(query: &Query, what: String) -> String {
     format!("usm_cell, name \"{}\" (hex), row {}: {what}", hex(&query.name), query.row)
 }
 
-/// The table's report, in a buffer that just holds it and in a longer one.
-fn same_table(case: &Case, owed: [u64; TABLE_WORDS]) -> Result<(), String> {
-    for words in [TABLE_WORDS, TABLE_WORDS + 3] {
-        let (answer, found) =
-            lend(words, |report| exports::table(case.slice(), case.place, report)).map_err(in_table)?;
-        same_answer(answer, found[0]).and_then(|()| same_words(found, owed)).map_err(in_table)?;
-    }
-    Ok(())
+fn same_table(case: &Case, expected: TableReply) -> Result<(), String> {
+    same(exports::table(case.slice(), case.place), expected).map_err(|what| format!("usm_table: {what}"))
 }
 
-/// A cell's report, in a buffer that is longer for every other row.
-fn cell_words(case: &Case, query: &Query) -> Result<[u64; CELL_WORDS], String> {
-    let words = CELL_WORDS + query.row % 2 * 3;
-    let (answer, found) = lend(words, |report| exports::cell(case.slice(), case.place, &query.name, query.row, report))
-        .map_err(|what| in_cell(query, what))?;
-    same_answer(answer, found[0]).map_err(|what| in_cell(query, what))?;
-    Ok(found)
+fn cell(case: &Case, query: &Query) -> CellReply {
+    exports::cell(case.slice(), case.place, &query.name, query.row)
 }
 
-fn same_answer(answer: u8, number: u64) -> Result<(), String> {
-    if u64::from(answer) == number {
-        return Ok(());
-    }
-    Err(format!("the answer is {answer}, and word 0 of the report {number}"))
-}
-
-fn same_words<const FIXED: usize>(found: [u64; FIXED], owed: [u64; FIXED]) -> Result<(), String> {
-    if found == owed {
-        return Ok(());
-    }
-    Err(format!("the report is {found:?}, and {owed:?} is owed"))
-}
-
-/// The words of a cell; where it has a part, its bytes and that it lies in the body.
-fn same_cell(case: &Case, found: [u64; CELL_WORDS], owed: &Cell) -> Result<(), String> {
-    let start = found[4];
-    match owed {
-        Cell::Nothing => same_words(found, [0; CELL_WORDS]),
-        Cell::Unsigned(number) => same_words(found, [0, 0, 0, 1, *number, 0]),
-        Cell::Signed(number) => same_words(found, [0, 0, 0, 2, *number as u64, 0]),
-        Cell::Float(bits) => same_words(found, [0, 0, 0, 3, (*bits).into(), 0]),
+/// The reply on a cell; where it has a part, its bytes and that it lies in the body.
+fn same_cell(case: &Case, found: CellReply, expected: &Cell) -> Result<(), String> {
+    let number = |kind, value| CellReply { kind, value, ..CellReply::default() };
+    let part = |kind, length| CellReply { kind, value: found.value, length, ..CellReply::default() };
+    match expected {
+        Cell::Nothing => same(found, CellReply::default()),
+        Cell::Unsigned(value) => same(found, number(1, *value)),
+        Cell::Signed(value) => same(found, number(2, *value as u64)),
+        Cell::Float(bits) => same(found, number(3, (*bits).into())),
         Cell::String(bytes) => {
             let terminated = [bytes, &b"\0"[..]].concat();
-            same_words(found, [0, 0, 0, 4, start, bytes.len() as u64])
-                .and_then(|()| same_part(case, start, &terminated))
-                .map_err(|what| format!("{what} ({owed})"))
+            same(found, part(4, bytes.len()))
+                .and_then(|()| same_part(case, found.value, &terminated))
+                .map_err(|what| format!("{what} ({expected})"))
         }
-        Cell::Data(bytes) if bytes.is_empty() => same_words(found, [0, 0, 0, 5, 0, 0]),
-        Cell::Data(bytes) => same_words(found, [0, 0, 0, 5, start, bytes.len() as u64])
-            .and_then(|()| same_part(case, start, bytes))
-            .map_err(|what| format!("{what} ({owed})")),
+        Cell::Data(bytes) if bytes.is_empty() => same(found, number(5, 0)),
+        Cell::Data(bytes) => same(found, part(5, bytes.len()))
+            .and_then(|()| same_part(case, found.value, bytes))
+            .map_err(|what| format!("{what} ({expected})")),
     }
 }
 
-fn same_part(case: &Case, start: u64, owed: &[u8]) -> Result<(), String> {
+fn same_part(case: &Case, start: u64, expected: &[u8]) -> Result<(), String> {
     let body = body(case);
     let start = start as usize;
-    let part = start.checked_add(owed.len()).map(|end| start..end);
+    let part = start.checked_add(expected.len()).map(|end| start..end);
     match part {
         Some(part) if part.start >= body.start && part.end <= body.end => {
             let found = &case.slice()[part];
-            if found == owed { Ok(()) } else { Err(format!("at {start} stands {}", hex(found))) }
+            if found == expected { Ok(()) } else { Err(format!("at {start} stands {}", hex(found))) }
         }
-        _ => Err(format!("{} bytes at {start} are not in the body, {body:?}", owed.len())),
+        _ => Err(format!("{} bytes at {start} are not in the body, {body:?}", expected.len())),
     }
 }
 

@@ -5,7 +5,7 @@ use std::time::Instant;
 
 use oracle::usm::extractor::access;
 
-use super::exports::{self, TABLE_WORDS};
+use super::exports;
 use super::hostile::{Pair, pairs};
 use crate::clock::{clock, median};
 
@@ -51,10 +51,9 @@ pub fn run() {
 
 /// usm_table. A table that is refused would be timed for nothing.
 fn rattle(table: &[u8]) {
-    let mut report = [0; TABLE_WORDS];
-    let answer = exports::table(black_box(table), 0, &mut report);
-    assert!(answer == 0, "a table for the clock is refused with {answer}");
-    black_box(report);
+    let reply = exports::table(black_box(table), 0);
+    assert!(reply.number == 0, "a table for the clock has the reply {reply:?}");
+    black_box(reply);
 }
 
 fn rust(table: &[u8]) {

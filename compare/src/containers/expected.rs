@@ -1,4 +1,4 @@
-//! What a call owes: the original's answer, or that of the rules where the original can't be asked.
+//! What is expected of a call: the original's answer, or that of the rules where the original can't be asked.
 
 use super::answer::{Kind, Refusal};
 use super::call::Call;
@@ -10,7 +10,7 @@ use super::rules::{self, Name, Reading};
 use crate::hex::hex;
 use crate::panics::OVERFLOW;
 
-pub enum Owed {
+pub enum Expected {
     Refused(Refusal),
     Accepted(Film),
     /// A film without a chunk, since the first would begin past the end: the original panics.
@@ -18,51 +18,51 @@ pub enum Owed {
 }
 
 /// Asks the original where it can be asked.
-pub fn owed(case: &Case, call: &Call, reading: &Reading, domain: Domain) -> Result<Owed, String> {
+pub fn expected(case: &Case, call: &Call, reading: &Reading, domain: Domain) -> Result<Expected, String> {
     match (domain, &reading.answer) {
         (Domain::Costly, _) if case.in_child => in_child(case, call),
-        (Domain::Costly | Domain::Outside(Rule::TooMany | Rule::TooLong), Err(refusal)) => Ok(Owed::Refused(*refusal)),
+        (Domain::Costly | Domain::Outside(Rule::TooMany | Rule::TooLong), Err(refusal)) => Ok(Expected::Refused(*refusal)),
         _ => original(case, call),
     }
 }
 
 /// Where the original does not refuse after all, it fills no more than the container has, and can be asked here.
-fn in_child(case: &Case, call: &Call) -> Result<Owed, String> {
+fn in_child(case: &Case, call: &Call) -> Result<Expected, String> {
     match child::ask(case.container(), call.takes_audio())? {
-        Some(refusal) => Ok(Owed::Refused(refusal)),
+        Some(refusal) => Ok(Expected::Refused(refusal)),
         None => original(case, call),
     }
 }
 
 /// The original's own answer. Document 01 has refusal 9 for its panics, but for those at a first chunk past the end.
-fn original(case: &Case, call: &Call) -> Result<Owed, String> {
+fn original(case: &Case, call: &Call) -> Result<Expected, String> {
     let container = case.container();
     match original::extract(container, call.takes_audio(), call.key(), &call.fallback) {
-        Answer::Accepted(film) => Ok(Owed::Accepted(film)),
-        Answer::Refused(refusal) => Ok(Owed::Refused(refusal)),
+        Answer::Accepted(film) => Ok(Expected::Accepted(film)),
+        Answer::Refused(refusal) => Ok(Expected::Refused(refusal)),
         Answer::Panicked(what, _) if what != OVERFLOW => {
             Err(format!("the original panics otherwise than at a difference: {what}"))
         }
         Answer::Panicked(_, block) if block > container.len() as u64 => {
             let film = original::without_chunks(container, &call.fallback);
-            film.map(Owed::PastTheEnd).map_err(|refusal| format!("the original's header walk says {refusal}"))
+            film.map(Expected::PastTheEnd).map_err(|refusal| format!("the original's header walk says {refusal}"))
         }
-        Answer::Panicked(_, block) => Ok(Owed::Refused(Refusal::new(9, block))),
+        Answer::Panicked(_, block) => Ok(Expected::Refused(Refusal::new(9, block))),
     }
 }
 
-/// The rules must say what is owed.
-pub fn same_by_the_rules(case: &Case, call: &Call, owed: &Owed, reading: &Reading) -> Result<(), String> {
-    match (owed, &reading.answer) {
-        (Owed::Refused(original), Err(refusal)) if original == refusal => Ok(()),
-        (Owed::Refused(original), Err(refusal)) => {
+/// The rules must say what is expected.
+pub fn same_by_the_rules(case: &Case, call: &Call, expected: &Expected, reading: &Reading) -> Result<(), String> {
+    match (expected, &reading.answer) {
+        (Expected::Refused(original), Err(refusal)) if original == refusal => Ok(()),
+        (Expected::Refused(original), Err(refusal)) => {
             Err(format!("the original says {original}, and the rules {refusal}"))
         }
-        (Owed::Refused(original), Ok(_)) => Err(format!("the original says {original}, and the rules accept")),
-        (Owed::Accepted(original), Ok(film)) if film.first <= case.length as u64 => {
+        (Expected::Refused(original), Ok(_)) => Err(format!("the original says {original}, and the rules accept")),
+        (Expected::Accepted(original), Ok(film)) if film.first <= case.length as u64 => {
             same_film(case, call, original, film)
         }
-        (Owed::PastTheEnd(original), Ok(film)) if film.first > case.length as u64 => {
+        (Expected::PastTheEnd(original), Ok(film)) if film.first > case.length as u64 => {
             same_film(case, call, original, film)
         }
         (_, Ok(film)) => Err(format!("the first chunk is at {} by the rules, and not so in the original", film.first)),
