@@ -39,7 +39,7 @@ module _ (container : List ℕ) (reading : Reading) (limit : length container �
 
   of-film : length (filmText (filmOf container reading)) ≤ 65536
   unfolding filmOf
-  of-film = after (headerOf container)
+  of-film = after (headerOf container (record { audio = Chosen }))
 
 by-length : (container : List ℕ) (t : Bool) → ltb 16384 (length container) ≡ t
     → length (cond t (refusalLine (record { cause = TooLong; place = 0 })) (filmText (filmOf container (record { audio = Chosen })))) ≤ 65536

@@ -10,7 +10,7 @@ use Rattle.replies.specs.declared.CellReply.{CellReply}
 
 -- "a table gives its column and row counts"; refused, its number and place, and "the type" beside 8
 abbrev pub tableReply : TableAnswer → TableReply
-tableReply (table.Table columns rows) = record { «refused_at» = 0; columns = columns; rows = rows; number = 0; «unknown_type» = 0 }
+tableReply (table.Table layout) = record { «refused_at» = 0; columns = layout .columns; rows = layout .rows; number = 0; «unknown_type» = 0 }
 tableReply (table.NoTable refusal) = record { «refused_at» = refusal .place; columns = 0; rows = 0; number = numberOf (refusal .cause); «unknown_type» = besideOf (refusal .cause) .«unknown_type» }
 
 -- "and, for a name and row, that cell, or nothing"

@@ -55,10 +55,10 @@ pub fn table_reply(answer: TableAnswer) -> TableReply
     ensures { λ r. ⌜ r ≡ tableReply answer ⌝ }
 {
     match answer {
-        TableAnswer::Table { columns, rows } => TableReply {
+        TableAnswer::Table(layout) => TableReply {
             refused_at: 0,
-            columns,
-            rows,
+            columns: layout.columns,
+            rows: layout.rows,
             number: 0,
             unknown_type: 0,
         },
