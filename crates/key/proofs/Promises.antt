@@ -1,12 +1,14 @@
 -- The promises of specs/Promises.antt, each under its name. T shows the bytes it is made of, and the counting bits hold the same bits as they do.
 -- Assumes nothing.
-use mathlib.Core.Path.{_≡_, ap₂}
+use mathlib.Core.Path.{_≡_, ap, ap₂}
+use mathlib.Core.List.{List}
 use mathlib.Core.Logic.{_↔_, Iff·trans}
 use Prim.Native.Nat.{ℕ, _+_, _*_, _/_, _%_, _^_, _<_}
 use native.Mathlib.Omega.{arith}
+use Rattle.laws.specs.Lists.{at}
 use Rattle.key.specs.CountingBits.{AgreeWhereItCounts, countingBits}
 use Rattle.key.specs.Promises as promised
-use Rattle.key.proofs.KeyBits.{same-table, table-same}
+use Rattle.key.proofs.KeyBits.{same-table, table-same, agree-of-even, same-below-0x18}
 
 pub OneTableExactlyWhenBitsAgree : promised.OneTableExactlyWhenBitsAgree
 OneTableExactlyWhenBitsAgree key key′ = (table-same key key′, same-table key key′)
@@ -26,3 +28,12 @@ one-number key key′ = (
 
 pub OneTableExactlyWhenOneNumber : promised.OneTableExactlyWhenOneNumber
 OneTableExactlyWhenOneNumber key key′ = Iff·trans (OneTableExactlyWhenBitsAgree key key′) (one-number key key′)
+
+pub EvenLanesTellTheBits : promised.EvenLanesTellTheBits
+EvenLanesTellTheBits key key′ bound h = (
+  λ e. agree-of-even key key′ (λ lane l. e lane (omega arith)),
+  λ a lane _ _. ap (λ (t : List ℕ). at t lane) (same-table key key′ a),
+)
+
+pub LanesBelow0x18HideBits40To47 : promised.LanesBelow0x18HideBits40To47
+LanesBelow0x18HideBits40To47 = same-below-0x18

@@ -1,5 +1,5 @@
 -- Document 01, "Positions for demand 3".
-use Prim.Native.Nat.{ℕ, _-_, _/_, _%_}
+use Prim.Native.Nat.{ℕ, _-_, _/_, _%_, min}
 use mathlib.Core.Bool.{Bool, false, cond, _||_}
 use lib.Bits.{bitXor}
 use lib.Dec.{ltb, eqb}
@@ -26,3 +26,7 @@ videoDiffers p =
 -- "Audio: from 0x140, even lanes differ by D; odd lanes are equal."
 unfoldable pub audioDiffers : ℕ → Bool
 audioDiffers p = cond (ltb p 0x140) false (eqb (p % 0x20 % 2) 0)
+
+-- how many lanes, from lane 0 on, a sound payload of n bytes has from 0x140 on
+abbrev pub lanesShown : ℕ → ℕ
+lanesShown n = min 0x20 (n - 0x140)

@@ -1,4 +1,4 @@
--- What the mission's demand 3 promises of payloads, one statement each. Each is proved under the same name in proofs/Promises.antt.
+-- What the mission's demand 3 and request 7 promise of payloads, one statement each. Each is proved under the same name in proofs/Promises.antt.
 use Prim.Native.Nat.{ℕ, _%_, _≤_, _<_}
 use mathlib.Core.Path.{_≡_}
 use mathlib.Core.Logic.{_↔_}
@@ -8,10 +8,10 @@ use lib.ListN.{length}
 use lib.Bits.{bitXor}
 use Rattle.laws.specs.Lists.{at}
 use Rattle.key.specs.KeyTable.{keysOf}
-use Rattle.key.specs.CountingBits.{AgreeWhereItCounts}
+use Rattle.key.specs.CountingBits.{AgreeWhereItCounts, DifferOnlyInBits40To47, SameEvenLanes}
 use Rattle.mask.specs.Video.{unmaskedVideo, maskedVideo}
 use Rattle.mask.specs.Audio.{maskedAudio}
-use Rattle.mask.specs.Positions.{difference, videoDiffers, audioDiffers}
+use Rattle.mask.specs.Positions.{difference, videoDiffers, audioDiffers, lanesShown}
 
 -- a payload under a key: video unmasked and masked, audio either
 abbrev pub video : ℕ → List ℕ → List ℕ
@@ -51,6 +51,22 @@ AudioDiffersByD =
 -- P7, of every payload and key: audio of 0x140 bytes or fewer stays
 abbrev pub ShortAudioStays : Type 0
 ShortAudioStays = (key : ℕ) (payload : List ℕ) → length payload ≤ 0x140 → audio key payload ≡ payload
+
+-- audio of n bytes is equal under two keys exactly when their T agree in every even lane below min(0x20, n - 0x140)
+abbrev pub AudioEqualExactlyWhenLanesAgree : Type 0
+AudioEqualExactlyWhenLanesAgree =
+    (key key′ : ℕ) (payload : List ℕ)
+    → (audio key payload ≡ audio key′ payload) ↔ SameEvenLanes (lanesShown (length payload)) key key′
+
+-- request 7: "the "exactly when" holds from 0x159 bytes on"
+abbrev pub ClipEqualExactlyWhenBitsAgree : Type 0
+ClipEqualExactlyWhenBitsAgree =
+    (key key′ : ℕ) (payload : List ℕ) → 0x159 ≤ length payload → (audio key payload ≡ audio key′ payload) ↔ AgreeWhereItCounts key key′
+
+-- request 7: "for any payload of 0x158 bytes or fewer, two keys that differ only in bits 40 to 47 give the same answer"
+abbrev pub ShorterClipHidesBits40To47 : Type 0
+ShorterClipHidesBits40To47 =
+    (key key′ : ℕ) (payload : List ℕ) → length payload ≤ 0x158 → DifferOnlyInBits40To47 key key′ → audio key payload ≡ audio key′ payload
 
 -- "the "exactly when" from 0x160 bytes"
 abbrev pub AudioEqualExactlyWhenBitsAgree : Type 0
