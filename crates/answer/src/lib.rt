@@ -1,6 +1,6 @@
 // The answer about two keys, printed for an operator and a billing analyst.
 //
-// What is decided is decided by functions of `digits`, which have contracts. What is here only
+// What is decided is decided by functions of `digits` and `clip`, which have contracts. What is here only
 // prints. No contract can say what is written, so the functions that print have none.
 ghost use Prim.Native.Nat.{_≤_};
 ghost use lib.ListN.{length};
@@ -19,6 +19,12 @@ enum Row {
     Digits(u64),
     Counts,
     Differs(u64, u64),
+}
+
+// Two keys, or nothing where a line told why not.
+enum Pair {
+    Keys(u64, u64),
+    Told,
 }
 
 // Prints a text.
@@ -102,8 +108,8 @@ fn print_streams_can_differ() {
           They give different pictures for a film exactly if it has a video payload of\n\
           data type 0 and 0x240 bytes or more.\n\
           They give different ADX sound for a film surely if it has an audio payload of\n\
-          data type 0 and 0x160 bytes or more, perhaps if the longest of data type 0 has\n\
-          0x141 to 0x15F bytes, and never if none of data type 0 has more than 0x140.\n\
+          data type 0 and 0x159 bytes or more, perhaps if the longest of data type 0 has\n\
+          0x141 to 0x158 bytes, and never if none of data type 0 has more than 0x140.\n\
           A film whose payloads are all short (video below 0x240 bytes, sound below\n\
           0x141) or plain (of a data type other than 0) is the same under all keys, and\n\
           so is all sound of a codec other than ADX.\n",
@@ -160,13 +166,27 @@ fn print_word(word: &[u8]) {
     }
 }
 
-// Prints that a word, whose argument is named by its number, is no key.
-fn print_no_key(number: &[u8], word: &[u8]) {
+// Prints the start of a line about a word, whose argument is named by its number.
+fn print_argument(number: &[u8], word: &[u8]) {
     print(b"argument ");
     print(number);
     print(b" (\"");
     print_word(word);
-    print(b"\") is no key: a key is 1 to 16 hex digits, with or without 0x\n");
+    print(b"\")");
+}
+
+// Prints that a word, whose argument is named by its number, is no key.
+fn print_no_key(number: &[u8], word: &[u8]) {
+    print_argument(number, word);
+    print(b" is no key: a key is 1 to 16 hex digits, with or without 0x\n");
+}
+
+// Prints that the third word is no length.
+fn print_no_length(word: &[u8]) {
+    print_argument(b"3", word);
+    print(
+        b" is no length: a length in bytes is 1 to 16 decimal digits, or 0x and 1 to 16 hex digits\n",
+    );
 }
 
 // Prints what two keys have in common.
@@ -175,20 +195,61 @@ fn print_about(first: u64, second: u64) {
     print_verdict(digits::verdict_on(first, second));
 }
 
+// Two words as typed: both keys, or a line about the first that is no key.
+fn read_pair(first: &[u8], second: &[u8]) -> Pair {
+    let Typed::Number(one) = digits::read_key(first) else {
+        print_no_key(b"1", first);
+        return Pair::Told;
+    };
+    let Typed::Number(two) = digits::read_key(second) else {
+        print_no_key(b"2", second);
+        return Pair::Told;
+    };
+    Pair::Keys(one, two)
+}
+
+// Prints whether a sound clip, whose length is shown as typed, tells two keys apart.
+fn print_clip(length: &[u8], tells: bool) {
+    print(b"\nA sound clip (one ADX payload of data type 0) of ");
+    print_word(length);
+    if tells {
+        print(
+            b" bytes\ntells the two keys apart: whatever it holds, it is not the same under both.\n",
+        );
+        return;
+    }
+    print(
+        b" bytes\ncannot tell the two keys apart: whatever it holds, it is the same under both.\n",
+    );
+}
+
 // Prints the answer for two words as typed, or one line about the first that is no key.
 pub fn print_answer(first: &[u8], second: &[u8]) {
-    let Typed::Key(one) = digits::read_key(first) else {
-        print_no_key(b"1", first);
-        return;
-    };
-    let Typed::Key(two) = digits::read_key(second) else {
-        print_no_key(b"2", second);
+    let Pair::Keys(one, two) = read_pair(first, second) else {
         return;
     };
     print_about(one, two);
 }
 
+// Prints the same, and whether a sound clip of a length as typed tells the keys apart; or one line about
+// the first word that is no key or no length.
+pub fn print_answer_on_clip(first: &[u8], second: &[u8], length: &[u8]) {
+    let Pair::Keys(one, two) = read_pair(first, second) else {
+        return;
+    };
+    let Typed::Number(bytes) = digits::read_length(length) else {
+        print_no_length(length);
+        return;
+    };
+    print_about(one, two);
+    print_clip(length, clip::clip_tells(bytes as usize, one, two));
+}
+
 // Prints how the program is called.
 pub fn print_usage() {
-    print(b"usage: two_keys FIRST SECOND  (a key is 1 to 16 hex digits, with or without 0x)\n");
+    print(
+        b"usage: two_keys FIRST SECOND [LENGTH]\n\
+          FIRST and SECOND are keys: 1 to 16 hex digits, with or without 0x. LENGTH is a\n\
+          sound clip's, in bytes: 1 to 16 decimal digits, or 0x and 1 to 16 hex digits.\n",
+    );
 }

@@ -1,19 +1,19 @@
--- The laws of a typed key, one for each way through the code that reads it. Assumes nothing.
+-- The laws of a typed number, one for each way through the code that reads it. Assumes nothing.
 use mathlib.Core.Path.{_≡_, refl, sym, _∙_}
 use mathlib.Core.Bool.{true, false, false≢true, and-false}
 use mathlib.Core.List.{List, [], _∷_}
 use Prim.Native.Nat.{ℕ, _+_, _-_, _*_, _^_, _≤_, _<_}
 use native.Mathlib.Omega.{arith}
 use native.Mathlib.Numerals.{add-one}
-use native.Mathlib.Nat.{lt-of-lt-of-le}
+use native.Mathlib.Nat.{lt-of-lt-of-le, lt-of-le-of-lt, mul-le-mul-left}
 use borrow.Author.Tests.{le-leb, lt-leb, lt-ltb, le-ltb, eq-eqb, ne-eqb}
 use lib.Arith.{digits-lt}
 use lib.Dec.{eqb}
 use lib.ListN.{length, getD, take, drop, length-drop}
 use lib.Pow.{pow-mono, pow-add}
 use lib.Seq.{drop-cons, drop-length, take-all}
-use Rattle.digits.specs.declared.Typed.the-variants.{Key, NotAKey}
-use Rattle.digits.specs.TypedKeys.{between, hexValue, prefixed, valueFrom, digitsRead, keyTyped}
+use Rattle.digits.specs.declared.Typed.the-variants.{Number, NoNumber}
+use Rattle.digits.specs.TypedNumbers.{between, hexValue, prefixed, valueFrom, digitsRead, numberTyped}
 
 pub inside : (low high n : ℕ) → low ≤ n → n ≤ high → between low high n ≡ true
 unfolding between
@@ -83,50 +83,57 @@ unfolding prefixed
 no-small-x word e h = simp (eq-eqb (getD word 0 0) 0x30 e, ne-eqb (getD word 1 0) 0x78 h)
 
 -- one more digit, a byte that is no digit, and the end of the digits
-module _ (value digit : ℕ) (digits : List ℕ) (i : ℕ) (h : i < length digits) (e : digit ≡ hexValue (getD digits i 0)) where
-  pub next-digit : digit < 16 → valueFrom (value * 16 + digit) (drop (i + 1) digits) ≡ valueFrom value (drop i digits)
+module _ (base value digit : ℕ) (digits : List ℕ) (i : ℕ) (h : i < length digits) (e : digit ≡ hexValue (getD digits i 0)) where
+  pub next-digit : digit < base → valueFrom base (value * base + digit) (drop (i + 1) digits) ≡ valueFrom base value (drop i digits)
   unfolding valueFrom
-  next-digit l = rw (add-one, drop-cons digits i 0 h, ← e) (simp (lt-ltb digit 16 l))
+  next-digit l = rw (add-one, drop-cons digits i 0 h, ← e) (simp (lt-ltb digit base l))
 
-  pub no-digit : 16 ≤ digit → NotAKey ≡ valueFrom value (drop i digits)
+  pub no-digit : base ≤ digit → NoNumber ≡ valueFrom base value (drop i digits)
   unfolding valueFrom
-  no-digit l = rw (drop-cons digits i 0 h, ← e) (simp (le-ltb digit 16 l))
+  no-digit l = rw (drop-cons digits i 0 h, ← e) (simp (le-ltb digit base l))
 
-pub no-more : (value : ℕ) (digits : List ℕ) (i : ℕ) → i ≡ length digits → Key value ≡ valueFrom value (drop i digits)
+pub no-more : (base value : ℕ) (digits : List ℕ) (i : ℕ) → i ≡ length digits → Number value ≡ valueFrom base value (drop i digits)
 unfolding valueFrom
-no-more value digits i e = rw (e, drop-length)
+no-more base value digits i e = rw (e, drop-length)
 
--- a value of i digits, with one more
-pub grows : (value digit i : ℕ) → value < 2 ^ (4 * i) → digit < 16 → value * 16 + digit < 2 ^ (4 * (i + 1))
-grows value digit i h l =
-    let e : 4 * (i + 1) ≡ 4 * i + 4 = omega arith in
-    rw (e, pow-add 2 (4 * i) 4) (digits-lt h l)
+-- a value of i digits, with one more, in a base of at most 16
+module _ (base value : ℕ) (b : base ≤ 16) where
+  at-most : value * base ≤ value * 16
+  at-most = mul-le-mul-left value b
 
-pub fits-60 : (value i : ℕ) → value < 2 ^ (4 * i) → i < 16 → value < 2 ^ 60
-fits-60 value i h l =
-    let most : 4 * i ≤ 60 = omega arith in
-    lt-of-lt-of-le h (pow-mono most)
+  pub grows : (digit i : ℕ) → value < 2 ^ (4 * i) → digit < base → value * base + digit < 2 ^ (4 * (i + 1))
+  grows digit i h l =
+      let e : 4 * (i + 1) ≡ 4 * i + 4 = omega arith in
+      let most : value * base + digit ≤ value * 16 + digit = omega (arith, at-most) in
+      rw (e, pow-add 2 (4 * i) 4) (lt-of-le-of-lt most (digits-lt h (lt-of-lt-of-le l b)))
+
+  pub fits-64 : (i : ℕ) → value < 2 ^ (4 * i) → i < 16 → value * base + 16 ≤ 2 ^ 64
+  fits-64 i h l =
+      let most : 4 * i ≤ 60 = omega arith in
+      let small : value < 2 ^ 60 = lt-of-lt-of-le h (pow-mono most) in
+      omega (arith, at-most)
 
 -- 1 to 16 digits, and the part after `0x`
-pub none-typed : (digits : List ℕ) → length digits ≡ 0 → digitsRead digits ≡ NotAKey
-unfolding digitsRead
-none-typed digits e = simp (below 1 16 (length digits) (omega arith))
+module _ (base : ℕ) where
+  pub none-typed : (digits : List ℕ) → length digits ≡ 0 → digitsRead base digits ≡ NoNumber
+  unfolding digitsRead
+  none-typed digits e = simp (below 1 16 (length digits) (omega arith))
 
-pub too-many : (digits : List ℕ) → 16 < length digits → digitsRead digits ≡ NotAKey
-unfolding digitsRead
-too-many digits h = simp (above 1 16 (length digits) h)
+  pub too-many : (digits : List ℕ) → 16 < length digits → digitsRead base digits ≡ NoNumber
+  unfolding digitsRead
+  too-many digits h = simp (above 1 16 (length digits) h)
 
-pub well-many : (digits : List ℕ) → 1 ≤ length digits → length digits ≤ 16 → digitsRead digits ≡ valueFrom 0 digits
-unfolding digitsRead
-well-many digits h l = simp (inside 1 16 (length digits) h l)
+  pub well-many : (digits : List ℕ) → 1 ≤ length digits → length digits ≤ 16 → digitsRead base digits ≡ valueFrom base 0 digits
+  unfolding digitsRead
+  well-many digits h l = simp (inside 1 16 (length digits) h l)
+
+  pub after-prefix : (word : List ℕ) → prefixed word ≡ true → numberTyped base word ≡ digitsRead 16 (drop 2 word)
+  unfolding numberTyped
+  after-prefix word e = simp e
+
+  pub no-prefix : (word : List ℕ) → prefixed word ≡ false → numberTyped base word ≡ digitsRead base word
+  unfolding numberTyped
+  no-prefix word e = simp e
 
 pub part-after : (word : List ℕ) (n : ℕ) → take (length word - n) (drop n word) ≡ drop n word
 part-after word n = take-all (length word - n) (drop n word) (simp length-drop (omega arith))
-
-pub after-prefix : (word : List ℕ) → prefixed word ≡ true → keyTyped word ≡ digitsRead (drop 2 word)
-unfolding keyTyped
-after-prefix word e = simp e
-
-pub no-prefix : (word : List ℕ) → prefixed word ≡ false → keyTyped word ≡ digitsRead word
-unfolding keyTyped
-no-prefix word e = simp e

@@ -1,4 +1,4 @@
-pub mod TypedKeys
+pub mod TypedNumbers
 pub mod KeyDigits
 pub mod Verdicts
 pub mod Promises

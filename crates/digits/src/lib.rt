@@ -1,17 +1,17 @@
 // A key as an operator knows it: 1 to 16 hex digits. It is read as it was typed, taken apart into
-// its digits, and set beside a second one. No rule of this crate comes from the Rust: the rules rest
-// on the bits of a key that count, and specs/Promises.antt says how.
+// its digits, and set beside a second one; a clip's length is read too. No rule of this crate comes from the
+// Rust: the rules rest on the bits of a key that count, and specs/Promises.antt says how.
 ghost use mathlib.Core.Path.{_≡_};
 ghost use Prim.Native.Nat.{_≤_, _<_};
 ghost use lib.ListN.{length};
-ghost use Rattle.digits.specs.TypedKeys.{hexValue, prefixed, valueFrom, digitsRead, keyTyped};
+ghost use Rattle.digits.specs.TypedNumbers.{hexValue, prefixed, valueFrom, digitsRead, numberTyped, keyTyped, lengthTyped};
 ghost use Rattle.digits.specs.KeyDigits.{digitAt, digitCounts, digitsDiffer};
 ghost use Rattle.digits.specs.Verdicts.{verdictOn};
 
-// What a word is that was typed as a key.
+// What a word is that was typed as a key or as a length.
 pub enum Typed {
-    Key(u64),
-    NotAKey,
+    Number(u64),
+    NoNumber,
 }
 
 // What two keys have in common: every bit, every bit that counts, or not even those.
@@ -25,7 +25,10 @@ pub enum Verdict {
 pub const PLACES: usize = 16;
 
 // The value of a hex digit is below this; a byte that is no hex digit has this value.
-const BASE: u64 = 16;
+const HEX: u64 = 16;
+
+// The value of a decimal digit is below this.
+const DECIMAL: u64 = 10;
 
 // A byte as a number.
 fn wide(byte: u8) -> u64
@@ -42,7 +45,7 @@ fn hex_value(byte: u8) -> u64
         b'0'..=b'9' => wide(byte - b'0'),
         b'A'..=b'F' => wide(byte - b'A') + 10,
         b'a'..=b'f' => wide(byte - b'a') + 10,
-        _ => BASE,
+        _ => HEX,
     }
 }
 
@@ -62,45 +65,61 @@ fn is_prefixed(word: &[u8]) -> bool
     word[1] == b'X'
 }
 
-// The key that at most 16 bytes write, if all of them are hex digits.
-fn value_of(digits: &[u8]) -> Typed
-    requires { ⌜ length (now digits) ≤ 16 ⌝ }
-    ensures { λ r. ⌜ r ≡ valueFrom 0 (now (digits .entry)) ⌝ }
+// The number that at most 16 bytes write, if all of them are digits of a base.
+fn value_of(digits: &[u8], base: u64) -> Typed
+    requires { ⌜ (length (now digits) ≤ 16) × (base ≤ 16) ⌝ }
+    ensures { λ r. ⌜ r ≡ valueFrom base 0 (now (digits .entry)) ⌝ }
 {
     let mut value = 0;
     let mut at = 0;
     while at < digits.len() {
         let digit = hex_value(digits[at]);
-        if BASE <= digit {
-            return Typed::NotAKey;
+        if base <= digit {
+            return Typed::NoNumber;
         }
-        value = value * BASE + digit;
+        value = value * base + digit;
         at += 1;
     }
-    Typed::Key(value)
+    Typed::Number(value)
 }
 
-// A key from its digits. A word with too many is refused unread.
-fn read_digits(digits: &[u8]) -> Typed
-    ensures { λ r. ⌜ r ≡ digitsRead (now (digits .entry)) ⌝ }
+// A number from its digits. A word with too many is refused unread.
+fn read_digits(digits: &[u8], base: u64) -> Typed
+    requires { ⌜ base ≤ 16 ⌝ }
+    ensures { λ r. ⌜ r ≡ digitsRead base (now (digits .entry)) ⌝ }
 {
     if digits.len() == 0 {
-        return Typed::NotAKey;
+        return Typed::NoNumber;
     }
     if PLACES < digits.len() {
-        return Typed::NotAKey;
+        return Typed::NoNumber;
     }
-    value_of(digits)
+    value_of(digits, base)
+}
+
+// A number as typed: hex after `0x` or `0X`, and where neither stands in front in digits of a base.
+fn read_number(word: &[u8], base: u64) -> Typed
+    requires { ⌜ base ≤ 16 ⌝ }
+    ensures { λ r. ⌜ r ≡ numberTyped base (now (word .entry)) ⌝ }
+{
+    if is_prefixed(word) {
+        return read_digits(&word[2..], HEX);
+    }
+    read_digits(word, base)
 }
 
 // A key as typed: 1 to 16 hex digits of either case, with or without `0x` or `0X` in front.
 pub fn read_key(word: &[u8]) -> Typed
     ensures { λ r. ⌜ r ≡ keyTyped (now (word .entry)) ⌝ }
 {
-    if is_prefixed(word) {
-        return read_digits(&word[2..]);
-    }
-    read_digits(word)
+    read_number(word, HEX)
+}
+
+// A clip's length as typed: 1 to 16 decimal digits, or hex digits after `0x` or `0X`.
+pub fn read_length(word: &[u8]) -> Typed
+    ensures { λ r. ⌜ r ≡ lengthTyped (now (word .entry)) ⌝ }
+{
+    read_number(word, DECIMAL)
 }
 
 // The hex digit of a key at a place, from 0, the leftmost, to 15, the rightmost; past these it is 0. The
@@ -112,7 +131,7 @@ pub fn digit_of(key: u64, place: usize) -> u8
     if PLACES <= place {
         return 0;
     }
-    ((key >> (4 * (15 - place))) % BASE) as u8
+    ((key >> (4 * (15 - place))) % HEX) as u8
 }
 
 // Whether the digit at a place can touch a picture or ADX sound at all. Bits 56 to 63 are the digits at

@@ -111,10 +111,10 @@ fn replay_key(key: u64) {
 // The key on a line.
 fn key_on(line: &[u8]) -> Typed {
     if line.len() != LINE {
-        return Typed::NotAKey;
+        return Typed::NoNumber;
     }
     if line[16] != b'\n' {
-        return Typed::NotAKey;
+        return Typed::NoNumber;
     }
     digits::read_key(&line[0..16])
 }
@@ -130,10 +130,10 @@ fn replay(list: &[u8]) -> bool {
         let end = at + LINE;
         let typed = key_on(&list[at..end]);
         match typed {
-            Typed::NotAKey => {
+            Typed::NoNumber => {
                 return false;
             }
-            Typed::Key(key) => {
+            Typed::Number(key) => {
                 replay_key(key);
             }
         }

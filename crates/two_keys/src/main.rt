@@ -1,4 +1,5 @@
-// Tells an operator what two keys have in common: two_keys FIRST SECOND.
+// Tells an operator what two keys have in common, and support whether a sound clip tells them apart:
+// two_keys FIRST SECOND [LENGTH].
 ghost use Rattle.io.specs.Counts.{Counts};
 
 // A word of more bytes is no key, and more of it is not shown.
@@ -16,9 +17,14 @@ fn read_argument(number: usize, word: &mut [u8]) -> usize
     length
 }
 
-// Prints the answer about the two arguments, or how the program is called.
+// Prints the answer about the arguments, or how the program is called.
 fn main() {
-    if os::arg_count() != 3 {
+    let count = os::arg_count();
+    if count < 3 {
+        answer::print_usage();
+        return;
+    }
+    if 4 < count {
         answer::print_usage();
         return;
     }
@@ -26,5 +32,15 @@ fn main() {
     let first_length = read_argument(1, &mut first);
     let mut second = [0u8; ROOM];
     let second_length = read_argument(2, &mut second);
-    answer::print_answer(&first[..first_length], &second[..second_length]);
+    if count == 3 {
+        answer::print_answer(&first[..first_length], &second[..second_length]);
+        return;
+    }
+    let mut third = [0u8; ROOM];
+    let third_length = read_argument(3, &mut third);
+    answer::print_answer_on_clip(
+        &first[..first_length],
+        &second[..second_length],
+        &third[..third_length],
+    );
 }

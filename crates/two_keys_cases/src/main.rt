@@ -1,5 +1,6 @@
-// Prints the answers for stored pairs of words: each verdict, each way to write a key, and words that
-// are no keys. The gate compares them with the file stdout.
+// Prints the answers for stored words: each verdict, each way to write a key and a length, clips that tell
+// keys apart and clips that do not, and words that are no keys and no lengths. The gate compares them with the
+// file stdout.
 use libc::STDOUT_FILENO;
 
 // Prints the answer for two words, and an empty line.
@@ -36,8 +37,9 @@ fn count() {
     beside_zero(b"FFFFFFFFFFFFFFFF");
 }
 
-// One key, written in two ways.
+// Two keys that differ only in digits that never count, as an operator types them; one key, written in two ways.
 fn spellings() {
+    pair(b"7F123456789ABCDE", b"0x1234F6789abcde");
     pair(b"1", b"0000000000000001");
     pair(b"abcdef0123456789", b"ABCDEF0123456789");
     pair(b"0xFEDCBA9876543210", b"0Xfedcba9876543210");
@@ -94,6 +96,55 @@ fn long_words() {
     no_key(&[b'F'; 4096]);
 }
 
+// Prints the answer for key 0, a key with a few bits set, and a clip's length.
+fn clip(second: &[u8], length: &[u8]) {
+    answer::print_answer_on_clip(b"0", second, length);
+    io::write_all(STDOUT_FILENO, b"\n");
+}
+
+// Prints the line about a word that is no length.
+fn no_length(word: &[u8]) {
+    answer::print_answer_on_clip(b"1", b"2", word);
+}
+
+// A key that differs in bits 40 to 47: lane 0x18 tells it, the last byte of 0x159.
+fn clips_and_byte_5() {
+    clip(b"FF0000000000", b"0x158");
+    clip(b"FF0000000000", b"344");
+    clip(b"FF0000000000", b"0X159");
+    clip(b"FF0000000000", b"345");
+}
+
+// Bit 0 shows in lane 0, in a clip of 0x141 bytes; clips of no byte and of the most that can be typed.
+fn clips_and_bit_0() {
+    clip(b"1", b"0x140");
+    clip(b"1", b"321");
+    clip(b"1", b"0");
+    clip(b"1", b"9999999999999999");
+    clip(b"1", b"0xFFFFFFFFFFFFFFFF");
+}
+
+// No clip tells keys apart that are one, or agree in all that counts.
+fn clips_and_equal_keys() {
+    clip(b"0", b"4096");
+    clip(b"FF0000F000000000", b"4096");
+}
+
+// Words that are no lengths, and keys that come before them.
+fn no_lengths() {
+    no_length(b"");
+    no_length(b"0x");
+    no_length(b"158h");
+    no_length(b"15A");
+    no_length(b"-1");
+    no_length(b"1.5");
+    no_length(b"12345678901234567");
+    no_length(b"0x12345678901234567");
+    no_length(b"1\n");
+    answer::print_answer_on_clip(b"one", b"two", b"three");
+    answer::print_answer_on_clip(b"1", b"two", b"three");
+}
+
 // The second argument is no key, and both are none.
 fn second_arguments() {
     answer::print_answer(b"1", b"two");
@@ -113,5 +164,9 @@ fn main() {
     neighbours();
     long_words();
     second_arguments();
+    clips_and_byte_5();
+    clips_and_bit_0();
+    clips_and_equal_keys();
+    no_lengths();
     answer::print_usage();
 }

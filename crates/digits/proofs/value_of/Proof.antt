@@ -4,17 +4,17 @@ use mathlib.Core.Path.{_≡_, refl, _∙_}
 use Prim.Native.Nat.{_-_, _*_, _^_, _≤_, _<_}
 use native.Mathlib.Omega.{arith}
 use lib.ListN.{length, drop}
-use Rattle.digits.specs.TypedKeys.{valueFrom}
-use Rattle.digits.proofs.TypedLaws.{next-digit, no-digit, no-more, grows, fits-60}
+use Rattle.digits.specs.TypedNumbers.{valueFrom}
+use Rattle.digits.proofs.TypedLaws.{next-digit, no-digit, no-more, grows, fits-64}
 use Rattle.digits.proofs.value_of.Statement.{statement}
 use Rattle.digits.proofs.value_of.Tie as tie
 
 abbrev Inv-loop : tie.InvT-loop
-Inv-loop digits value₀ at₀ value at =
-    (at ≤ length digits) × (value < 2 ^ (4 * at)) × (valueFrom value (drop at digits) ≡ valueFrom 0 digits)
+Inv-loop digits base value₀ at₀ value at =
+    (at ≤ length digits) × (value < 2 ^ (4 * at)) × (valueFrom base value (drop at digits) ≡ valueFrom base 0 digits)
 
 abbrev μ-loop : tie.MeasureT-loop
-μ-loop digits value₀ at₀ value at = length digits - at
+μ-loop digits base value₀ at₀ value at = length digits - at
 
 loop-holds : tie.Need-loop-holds Inv-loop μ-loop
 loop-holds c = (omega arith, omega arith, refl)
@@ -28,18 +28,18 @@ hex-value-requires c κs = tt
 returns : tie.Need-returns Inv-loop μ-loop
 returns c =
     let l = c .before .before .before .before .loop in
-    no-digit (l .value) (c .before .hex-value .result) (c .before .before .before .before .before .before .args .digits .now) (l .at) (c .before .before .before .loop-test .taken) (c .before .hex-value .ensures) (c .if1 .taken) ∙ l .inv .2
+    no-digit _ (l .value) (c .before .hex-value .result) (c .before .before .before .before .before .before .args .digits .now) (l .at) (c .before .before .before .loop-test .taken) (c .before .hex-value .ensures) (c .if1 .taken) ∙ l .inv .2
 
 mul-value : tie.Need-mul-value Inv-loop μ-loop
 mul-value c =
     let l = c .before .before .before .before .loop in
-    let h = fits-60 (l .value) (l .at) (l .inv .1) (omega arith) in
+    let h = fits-64 (c .before .before .before .before .before .before .args .base) (l .value) (omega arith) (l .at) (l .inv .1) (omega arith) in
     omega arith
 
 add-value : tie.Need-add-value Inv-loop μ-loop
 add-value c =
     let l = c .before .before .before .before .loop in
-    let h = fits-60 (l .value) (l .at) (l .inv .1) (omega arith) in
+    let h = fits-64 (c .before .before .before .before .before .before .args .base) (l .value) (omega arith) (l .at) (l .inv .1) (omega arith) in
     omega arith
 
 add-at : tie.Need-add-at Inv-loop μ-loop
@@ -52,14 +52,14 @@ loop-again : tie.Need-loop-again Inv-loop μ-loop
 loop-again c =
     let l = c .before .before .before .before .loop in (
       omega arith,
-      grows (l .value) (c .before .hex-value .result) (l .at) (l .inv .1) (c .if1 .left),
-      next-digit (l .value) (c .before .hex-value .result) (c .before .before .before .before .before .before .args .digits .now) (l .at) (c .before .before .before .loop-test .taken) (c .before .hex-value .ensures) (c .if1 .left) ∙ l .inv .2,
+      grows _ (l .value) (omega arith) (c .before .hex-value .result) (l .at) (l .inv .1) (c .if1 .left),
+      next-digit _ (l .value) (c .before .hex-value .result) (c .before .before .before .before .before .before .args .digits .now) (l .at) (c .before .before .before .loop-test .taken) (c .before .hex-value .ensures) (c .if1 .left) ∙ l .inv .2,
     )
 
 returns-2 : tie.Need-returns-2 Inv-loop μ-loop
 returns-2 c =
     let l = c .before .loop in
-    no-more (l .value) (c .before .before .before .args .digits .now) (l .at) (omega arith) ∙ l .inv .2
+    no-more _ (l .value) (c .before .before .before .args .digits .now) (l .at) (omega arith) ∙ l .inv .2
 
 pub value-of-spec : {M : Type 1} → statement M
 value-of-spec =

@@ -1,11 +1,11 @@
--- `digits::read_key` meets its contract: a word with `0x` in front has two bytes or more, and the part from 2 on is
+-- `digits::read_number` meets its contract: a word with `0x` in front has two bytes or more, and the part from 2 on is
 -- what the definition drops to. Assumes nothing.
 use mathlib.Core.Path.{sym, ap, _∙_}
 use borrow.Author.Needs.{needs}
-use Rattle.digits.specs.TypedKeys.{digitsRead}
+use Rattle.digits.specs.TypedNumbers.{digitsRead}
 use Rattle.digits.proofs.TypedLaws.{long-enough, part-after, after-prefix, no-prefix}
-use Rattle.digits.proofs.read_key.Statement.{statement}
-use Rattle.digits.proofs.read_key.Tie as tie
+use Rattle.digits.proofs.read_number.Statement.{statement}
+use Rattle.digits.proofs.read_number.Tie as tie
 
 is-prefixed-requires : tie.Need-is-prefixed-requires
 is-prefixed-requires c κs = search needs
@@ -27,8 +27,8 @@ read-digits-requires c κs = search needs
 returns : tie.Need-returns
 returns c =
     let word = c .before .before .before .before .before .args .word .now in
-    c .read-digits .ensures ∙ ap digitsRead (part-after word 2)
-    ∙ sym (after-prefix word (sym (c .before .before .before .is-prefixed .ensures) ∙ c .before .before .if1 .taken))
+    c .read-digits .ensures ∙ ap (digitsRead 16) (part-after word 2)
+    ∙ sym (after-prefix _ word (sym (c .before .before .before .is-prefixed .ensures) ∙ c .before .before .if1 .taken))
 
 read-digits-requires-2 : tie.Need-read-digits-requires-2
 read-digits-requires-2 c κs = search needs
@@ -36,10 +36,10 @@ read-digits-requires-2 c κs = search needs
 returns-2 : tie.Need-returns-2
 returns-2 c =
     c .read-digits2 .ensures
-    ∙ sym (no-prefix (c .before .before .before .before .args .word .now) (sym (c .before .before .is-prefixed .ensures) ∙ c .before .if1 .left))
+    ∙ sym (no-prefix _ (c .before .before .before .before .args .word .now) (sym (c .before .before .is-prefixed .ensures) ∙ c .before .if1 .left))
 
-pub read-key-spec : {M : Type 1} → statement M
-read-key-spec =
+pub read-number-spec : {M : Type 1} → statement M
+read-number-spec =
     tie.close
     (tie.spec
     is-prefixed-requires

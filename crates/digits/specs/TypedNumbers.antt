@@ -1,0 +1,43 @@
+-- A key as it is typed: "1 to 16 hex digits, `0x` allowed, either case"; and a length: 1 to 16 digits, which are hex after `0x` and
+-- decimal without it. Assumes nothing.
+use Prim.Native.Nat.{ℕ, _+_, _-_, _*_}
+use mathlib.Core.Bool.{Bool, cond, _&&_, _||_}
+use mathlib.Core.List.{List, [], _∷_}
+use lib.Dec.{leb, ltb, eqb}
+use lib.ListN.{length, getD, drop}
+use Rattle.digits.specs.declared.Typed.{Typed}
+use Rattle.digits.specs.declared.Typed.the-variants.{Number, NoNumber}
+
+-- a byte or a count from low to high, both ends in
+unfoldable pub between : ℕ → ℕ → ℕ → Bool
+between low high n = leb low n && leb n high
+
+-- the value of a hex digit: `0` to `9`, `A` to `F`, `a` to `f`; of any other byte, 16
+unfoldable pub hexValue : ℕ → ℕ
+hexValue byte =
+    cond (between 0x30 0x39 byte) (byte - 0x30)
+    (cond (between 0x41 0x46 byte) (byte - 0x41 + 10)
+    (cond (between 0x61 0x66 byte) (byte - 0x61 + 10) 16))
+
+-- the word begins with `0x` or `0X`
+unfoldable pub prefixed : List ℕ → Bool
+prefixed word = eqb (getD word 0 0) 0x30 && (eqb (getD word 1 0) 0x78 || eqb (getD word 1 0) 0x58)
+
+-- the number that digits of a base write after a value; none where one of them is no digit
+unfoldable pub valueFrom : ℕ → ℕ → List ℕ → Typed
+valueFrom base value [] = Number value
+valueFrom base value (byte ∷ bytes) = cond (ltb (hexValue byte) base) (valueFrom base (value * base + hexValue byte) bytes) NoNumber
+
+-- 1 to 16 digits
+unfoldable pub digitsRead : ℕ → List ℕ → Typed
+digitsRead base digits = cond (between 1 16 (length digits)) (valueFrom base 0 digits) NoNumber
+
+-- hex digits after `0x` or `0X`; where neither stands in front, the whole word in digits of a base
+unfoldable pub numberTyped : ℕ → List ℕ → Typed
+numberTyped base word = cond (prefixed word) (digitsRead 16 (drop 2 word)) (digitsRead base word)
+
+abbrev pub keyTyped : List ℕ → Typed
+keyTyped = numberTyped 16
+
+abbrev pub lengthTyped : List ℕ → Typed
+lengthTyped = numberTyped 10
