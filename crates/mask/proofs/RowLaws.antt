@@ -11,11 +11,11 @@ use Rattle.laws.proofs.SpliceLaws.{part-at, part-length}
 use Rattle.laws.proofs.UptoLaws.{Upto, upto-part}
 use Rattle.mask.specs.Rows.{xored}
 
-xored-length : (bytes row : List ℕ) → length (xored bytes row) ≡ length bytes
+pub xored-length : (bytes row : List ℕ) → length (xored bytes row) ≡ length bytes
 unfolding xored
 xored-length bytes row = tab-length _ (length bytes)
 
-xored-at : (bytes row : List ℕ) (lane : ℕ) → lane < length bytes → at (xored bytes row) lane ≡ bitXor (at bytes lane) (at row lane)
+pub xored-at : (bytes row : List ℕ) (lane : ℕ) → lane < length bytes → at (xored bytes row) lane ≡ bitXor (at bytes lane) (at row lane)
 unfolding xored
 xored-at bytes row lane h = tab-at (λ i. bitXor (at bytes i) (at row i)) (length bytes) lane h
 

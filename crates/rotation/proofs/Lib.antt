@@ -1,0 +1,3 @@
+pub mod OrderLaws
+pub mod ThreeLaws
+pub mod Promises
