@@ -1,5 +1,3 @@
-pub mod DecimalLaws
-pub mod PutLaws
 pub mod LineLaws
 pub mod TextLaws
 pub mod Promises

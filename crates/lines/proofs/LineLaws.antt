@@ -1,42 +1,46 @@
 -- How long the lines are: a line is the sum of its pieces, and a container of at most 16,384 bytes has few enough of them.
 -- Chunks stand at least 8 bytes apart and a line has at most 20 bytes, so there are at most 5 bytes of text for 2 of the container. Assumes nothing.
-use mathlib.Core.Path.{_≡_, ap}
-use mathlib.Core.List.{List, [], _∷_, _++_}
+use mathlib.Core.Path.{_≡_, sym, ap, _∙_}
+use mathlib.Core.List.{List, [], _∷_}
 use Prim.Native.Nat.{ℕ, suc, _+_, _-_, _*_, _^_, _≤_, _<_}
+use native.Mathlib.Nat.{zero-add}
 use native.Mathlib.Omega.{arith}
 use lib.ListN.{length, length-append}
+use lib.Seq.{sets}
 use Rattle.refusal.specs.declared.Refusal.{Refusal}
 use Rattle.refusal.specs.Numbers.{numberOf}
-use Rattle.reading.specs.declared.Reading.{Reading}
+use Rattle.reading.specs.declared.Applied.{Applied}
 use Rattle.chunk.specs.declared.Kind.{Kind}
 use Rattle.chunk.specs.declared.Kind.the-variants.{Video, Audio, Other, End}
 use Rattle.chunk.specs.declared.Chunk.{Chunk}
-use Rattle.chunk.specs.declared.ChunkStep.the-variants.{Over, Found, Refused}
+use Rattle.chunk.specs.declared.ChunkStep.the-variants.{Found}
 use Rattle.chunk.specs.Chunks.{chunkAt}
 use Rattle.chunk.proofs.FoundLaws.{found}
-use Rattle.walk.specs.Walks.{Walk, walkFrom}
-use Rattle.walk.proofs.WalkLaws.{walk-over, walk-found, walk-refused, every-walk}
-use Rattle.lines.specs.Decimals.{decimal}
+use Rattle.walk.specs.Walks.{walkFrom, joined}
+use Rattle.walk.proofs.WalkLaws.{every-walk}
+use Rattle.walk.proofs.PutLaws.{Output, output}
+use Rattle.text.specs.Numbers.{decimal}
+use Rattle.text.specs.Outputs.{Put}
+use Rattle.text.proofs.NumberLaws.{decimal-short, decimal-fits}
 use Rattle.lines.specs.Lines.{space, newline, numberThen, kindWord, lineOf, linesOf, refusalLine}
-use Rattle.lines.proofs.DecimalLaws.{decimal-short, decimal-fits}
 
-pub number-length : (after n : ℕ) → length (numberThen after n) ≡ length (decimal n) + 1
+pub number-length : (after : List ℕ) (n : ℕ) → length (numberThen after n) ≡ length (decimal n) + length after
 unfolding numberThen
-number-length after n = length-append (decimal n) (after ∷ [])
+number-length after n = length-append (decimal n) after
 
 pub line-length : (chunk : Chunk) → length (lineOf chunk) ≡ length (numberThen space (chunk .start)) + length (kindWord (chunk .kind)) + length (numberThen space (chunk .«data_type»)) + length (numberThen newline (chunk .len))
 unfolding lineOf
 line-length chunk = simp length-append
 
-pub refusal-length : (refusal : Refusal) → length (refusalLine refusal) ≡ 8 + length (numberThen space (numberOf (refusal .cause))) + 3 + length (numberThen newline (refusal .place))
+refusal-length : (refusal : Refusal) → length (refusalLine refusal) ≡ 8 + length (numberThen space (numberOf (refusal .cause))) + 3 + length (numberThen newline (refusal .place))
 unfolding refusalLine
 refusal-length refusal = simp length-append
 
 -- any number has at most 20 digits
-pub number-fits : (after n : ℕ) → length (numberThen after n) ≤ 21
+pub number-fits : (after : List ℕ) (n : ℕ) → length (numberThen after n) ≤ 20 + length after
 number-fits after n = omega (arith, number-length after n, decimal-fits n)
 
-number-short : (after k n : ℕ) → n < 10 ^ suc k → length (numberThen after n) ≤ k + 2
+number-short : (after : List ℕ) (k n : ℕ) → n < 10 ^ suc k → length (numberThen after n) ≤ suc k + length after
 number-short after k n h = omega (arith, number-length after n, decimal-short k n h)
 
 word-short : (kind : Kind) → length (kindWord kind) ≤ 6
@@ -53,16 +57,16 @@ line-short chunk s t l =
 pub refusal-short : (refusal : Refusal) → length (refusalLine refusal) ≤ 53
 refusal-short refusal = omega (arith, refusal-length refusal, number-fits space (numberOf (refusal .cause)), number-fits newline (refusal .place))
 
-module _ (container : List ℕ) (reading : Reading) (limit : length container ≤ 16384) where
+module _ (container : List ℕ) (reading : Applied) (limit : length container ≤ 16384) where
   abbrev Short : ℕ → List Chunk → Type 0
   Short c chunks = 2 * length (linesOf chunks) ≤ 5 * (length container - c)
 
   none-short : (c : ℕ) → Short c []
-  unfolding linesOf
+  unfolding joined
   none-short c = omega arith
 
   one-more-short : (c : ℕ) (chunk : Chunk) (chunks : List Chunk) → chunkAt container reading c ≡ Found chunk → Short (chunk .next) chunks → Short c (chunk ∷ chunks)
-  unfolding linesOf
+  unfolding joined
   one-more-short c chunk chunks e more =
       let w = found container reading c chunk e in
       let line = line-short chunk (omega arith) (omega arith) (omega arith) in
@@ -71,18 +75,6 @@ module _ (container : List ℕ) (reading : Reading) (limit : length container �
   pub lines-short : (c : ℕ) → length (linesOf (walkFrom container reading c .chunks)) ≤ 40960
   lines-short c = omega (arith, every-walk container reading Short none-short one-more-short c)
 
--- ---- the lines from a place on, by what stands there
-
-module _ (container : List ℕ) (reading : Reading) (c : ℕ) where
-  pub lines-over : chunkAt container reading c ≡ Over → linesOf (walkFrom container reading c .chunks) ≡ []
-  unfolding linesOf
-  lines-over e = ap (λ (walk : Walk). linesOf (walk .chunks)) (walk-over container reading c e)
-
-  pub lines-found : (chunk : Chunk) → chunkAt container reading c ≡ Found chunk
-      → linesOf (walkFrom container reading c .chunks) ≡ lineOf chunk ++ linesOf (walkFrom container reading (chunk .next) .chunks)
-  unfolding linesOf
-  lines-found chunk e = ap (λ (walk : Walk). linesOf (walk .chunks)) (walk-found container reading c chunk e)
-
-  pub lines-refused : (refusal : Refusal) → chunkAt container reading c ≡ Refused refusal → linesOf (walkFrom container reading c .chunks) ≡ []
-  unfolding linesOf
-  lines-refused refusal e = ap (λ (walk : Walk). linesOf (walk .chunks)) (walk-refused container reading c refusal e)
+-- what a loop over chunks has put when it is over
+pub put-whole : {bytes out after : List ℕ} {end : ℕ} → output end after ≡ output (length bytes) (sets out 0 bytes) → Put bytes out 0 after end
+put-whole {bytes} e = record { ends = ap (λ (o : Output ℕ). o .end) e ∙ sym (zero-add (length bytes)); holds = ap (λ (o : Output ℕ). o .holds) e }

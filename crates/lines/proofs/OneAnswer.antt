@@ -1,4 +1,4 @@
--- No second answer meets a contract of this crate: what a caller learns makes two lengths and two outputs at exit one. Assumes nothing.
+-- No second answer meets a contract of this crate: what a caller learns makes two lengths and two outputs at exit equal. Assumes nothing.
 use mathlib.Core.Path.{_≡_}
 use Rattle.laws.proofs.OneAnswer.{no-second-answer}
 use Rattle.lines.proofs.lines.Reads as lines

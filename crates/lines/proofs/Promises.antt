@@ -10,6 +10,7 @@ use borrow.Author.Tests.{ltb-false}
 use Rattle.refusal.specs.declared.Cause.the-variants.{TooLong}
 use Rattle.reading.specs.declared.AudioChoice.the-variants.{Chosen}
 use Rattle.reading.specs.declared.Reading.{Reading}
+use Rattle.reading.specs.declared.Applied.{Applied}
 use Rattle.reading.specs.Choices.{appliedTo}
 use Rattle.chunk.specs.declared.Chunk.{Chunk}
 use Rattle.walk.specs.Walks.{Ending, clean, stopped, walkFrom}
@@ -22,16 +23,17 @@ use Rattle.lines.specs.Lines.{linesOf, refusalLine, filmText, textOf}
 use Rattle.lines.specs.Promises as promised
 use Rattle.lines.proofs.LineLaws.{refusal-short, lines-short}
 
-ended : (header : Header) (chunks : List Chunk) (ending : Ending) → length (linesOf chunks) ≤ 65536 → length (filmText (endedAs header chunks ending)) ≤ 65536
-ended header chunks clean h = h
-ended header chunks (stopped refusal) h = omega (arith, refusal-short refusal)
+ended : (header : Header) (applied : Applied) (chunks : List Chunk) (ending : Ending) → length (linesOf chunks) ≤ 65536 → length (filmText (endedAs header applied chunks ending)) ≤ 65536
+ended header applied chunks clean h = h
+ended header applied chunks (stopped refusal) h = omega (arith, refusal-short refusal)
 
 module _ (container : List ℕ) (reading : Reading) (limit : length container ≤ 16384) where
   from-header : (header : Header) → length (filmText (filmFrom container reading header)) ≤ 65536
   unfolding filmFrom
   from-header header =
-      let walked = walkFrom container (appliedTo (header .audio) reading) (header .start) in
-      ended header (walked .chunks) (walked .ending) (omega (arith, lines-short container (appliedTo (header .audio) reading) limit (header .start)))
+      let applied = appliedTo (header .audio) reading in
+      let walked = walkFrom container applied (header .start) in
+      ended header applied (walked .chunks) (walked .ending) (omega (arith, lines-short container applied limit (header .start)))
 
   after : (a : HeaderAnswer) → length (filmText (afterHeader (filmFrom container reading) a)) ≤ 65536
   after (answer.Read header) = from-header header

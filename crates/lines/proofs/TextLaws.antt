@@ -9,7 +9,7 @@ use Rattle.refusal.specs.declared.Cause.the-variants.{TooLong}
 use Rattle.refusal.specs.declared.Refusal.{Refusal}
 use Rattle.reading.specs.declared.AudioChoice.the-variants.{Chosen}
 use Rattle.reading.specs.declared.Reading.{Reading}
-use Rattle.reading.specs.Choices.{appliedTo}
+use Rattle.reading.specs.declared.Applied.{Applied}
 use Rattle.walk.specs.Walks.{walkFrom}
 use Rattle.header.specs.declared.Header.{Header}
 use Rattle.film.specs.declared.Surveyed.the-variants as survey
@@ -29,13 +29,13 @@ module _ (container : List ℕ) where
   unfolding textOf
   not-too-long h = rw (le-ltb 16384 (length container) h)
 
-  pub accepted : length container ≤ 16384 → (header : Header) (count video audio : ℕ) → surveyOf (filmOf container chosen) ≡ survey.Film header count video audio
-      → linesOf (walkFrom container (appliedTo (header .audio) chosen) (header .start) .chunks) ≡ textOf container
-  accepted h header count video audio e = sym (not-too-long h ∙ ap filmText (surveyed-film container chosen header count video audio e))
+  pub accepted : length container ≤ 16384 → (header : Header) (applied : Applied) (count video audio : ℕ)
+      → surveyOf (filmOf container chosen) ≡ survey.Film header applied count video audio → linesOf (walkFrom container applied (header .start) .chunks) ≡ textOf container
+  accepted h header applied count video audio e = sym (not-too-long h ∙ ap filmText (surveyed-film container chosen header applied count video audio e))
 
   pub not-accepted : length container ≤ 16384 → (refusal : Refusal) → surveyOf (filmOf container chosen) ≡ survey.Refused refusal → refusalLine refusal ≡ textOf container
   not-accepted h refusal e = sym (not-too-long h ∙ ap filmText (by-film refusal (filmOf container chosen) e))
     where
       by-film : (refusal : Refusal) (f : Film) → surveyOf f ≡ survey.Refused refusal → f ≡ refused refusal
-      by-film refusal (film header chunks) e = let z : _≡_ {A = ℕ} 0 1 = cc in absurd (omega arith)
+      by-film refusal (film header applied chunks) e = let z : _≡_ {A = ℕ} 0 1 = cc in absurd (omega arith)
       by-film refusal (refused other) e = cc

@@ -1,4 +1,2 @@
-pub mod Decimals
 pub mod Lines
-pub mod Outputs
 pub mod Promises

@@ -11,41 +11,41 @@ use Rattle.reading.specs.declared.AudioChoice.the-variants.{Chosen}
 use Rattle.chunk.specs.declared.Kind.{Kind}
 use Rattle.chunk.specs.declared.Kind.the-variants.{Video, Audio, Other, End}
 use Rattle.chunk.specs.declared.Chunk.{Chunk}
+use Rattle.text.specs.Numbers.{decimal}
+use Rattle.walk.specs.Walks.{joined}
 use Rattle.film.specs.Films.{Film, film, refused, filmOf}
-use Rattle.lines.specs.Decimals.{decimal}
 
 -- one space; LF
-abbrev pub space : ℕ
-space = 0x20
+abbrev pub space : List ℕ
+space = 0x20 ∷ []
 
-abbrev pub newline : ℕ
-newline = 0x0A
+abbrev pub newline : List ℕ
+newline = 0x0A ∷ []
 
--- a number, and the byte after it
-unfoldable pub numberThen : ℕ → ℕ → List ℕ
-numberThen after n = decimal n ++ (after ∷ [])
+-- a number, and what stands after it
+unfoldable pub numberThen : List ℕ → ℕ → List ℕ
+numberThen after n = decimal n ++ after
 
 -- "kind (`video`, `audio`, `other`, `end`)", and a space
 abbrev pub kindWord : Kind → List ℕ
-kindWord Video = 0x76 ∷ 0x69 ∷ 0x64 ∷ 0x65 ∷ 0x6F ∷ space ∷ []
-kindWord Audio = 0x61 ∷ 0x75 ∷ 0x64 ∷ 0x69 ∷ 0x6F ∷ space ∷ []
-kindWord Other = 0x6F ∷ 0x74 ∷ 0x68 ∷ 0x65 ∷ 0x72 ∷ space ∷ []
-kindWord End = 0x65 ∷ 0x6E ∷ 0x64 ∷ space ∷ []
+kindWord Video = 0x76 ∷ 0x69 ∷ 0x64 ∷ 0x65 ∷ 0x6F ∷ space
+kindWord Audio = 0x61 ∷ 0x75 ∷ 0x64 ∷ 0x69 ∷ 0x6F ∷ space
+kindWord Other = 0x6F ∷ 0x74 ∷ 0x68 ∷ 0x65 ∷ 0x72 ∷ space
+kindWord End = 0x65 ∷ 0x6E ∷ 0x64 ∷ space
 
 -- "one line per chunk", "as start, kind .., type, length"
 unfoldable pub lineOf : Chunk → List ℕ
 lineOf chunk = numberThen space (chunk .start) ++ kindWord (chunk .kind) ++ numberThen space (chunk .«data_type») ++ numberThen newline (chunk .len)
 
-unfoldable pub linesOf : List Chunk → List ℕ
-linesOf [] = []
-linesOf (chunk ∷ chunks) = lineOf chunk ++ linesOf chunks
+abbrev pub linesOf : List Chunk → List ℕ
+linesOf = joined lineOf
 
 -- `refused ` and `at `
 abbrev pub refusedWord : List ℕ
-refusedWord = 0x72 ∷ 0x65 ∷ 0x66 ∷ 0x75 ∷ 0x73 ∷ 0x65 ∷ 0x64 ∷ space ∷ []
+refusedWord = 0x72 ∷ 0x65 ∷ 0x66 ∷ 0x75 ∷ 0x73 ∷ 0x65 ∷ 0x64 ∷ space
 
 abbrev pub atWord : List ℕ
-atWord = 0x61 ∷ 0x74 ∷ space ∷ []
+atWord = 0x61 ∷ 0x74 ∷ space
 
 -- "`refused N at P`". The type beside 8 is not printed
 unfoldable pub refusalLine : Refusal → List ℕ
@@ -53,7 +53,7 @@ refusalLine refusal = refusedWord ++ numberThen space (numberOf (refusal .cause)
 
 -- "prints one line per chunk, or only `refused N at P`"
 abbrev pub filmText : Film → List ℕ
-filmText (film header chunks) = linesOf chunks
+filmText (film header applied chunks) = linesOf chunks
 filmText (refused refusal) = refusalLine refusal
 
 -- "A program reads a container of at most 16,384 bytes from standard input (longer: 11), with audio chosen"

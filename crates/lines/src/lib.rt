@@ -1,16 +1,17 @@
-// From the bytes of a container to lines of text: one for each chunk, or the one that tells the refusal.
+// From the bytes of a container to lines of text: one for each chunk, or the one of the refusal.
 // Document 01, "Chunks": what the program prints. No function of the Rust prints. `show` reads and writes.
 ghost use mathlib.Core.Path.{_≡_};
 ghost use Prim.Native.Nat.{_+_, _≤_, _<_, _^_};
-ghost use lib.ListN.{length, set};
+ghost use lib.ListN.{length};
 ghost use lib.Seq.{sets};
+ghost use Rattle.text.specs.Outputs.{Put};
 ghost use Rattle.walk.specs.Walks.{walkFrom};
 ghost use Rattle.lines.specs.Lines.{numberThen, kindWord, lineOf, linesOf, refusalLine, textOf};
-ghost use Rattle.lines.specs.Outputs.{Put};
 use chunk::Chunk;
 use chunk::ChunkStep;
 use chunk::Kind;
 use film::Surveyed;
+use reading::Applied;
 use reading::AudioChoice;
 use reading::Reading;
 use refusal::Cause;
@@ -19,38 +20,21 @@ use refusal::Refusal;
 // A longer container is refused.
 pub const LONGEST: usize = 16384;
 
-// Puts a byte into an output, if it has the place.
-fn put_byte(out: &mut [u8], place: usize, byte: u8)
-    ensures { λ _. ⌜ now (out .exit) ≡ set (now (out .entry)) place byte ⌝ }
+// Puts a word from a place on, and answers where it ends.
+fn put_word(out: &mut [u8], place: usize, word: &[u8]) -> usize
+    requires { ⌜ place + length (now word) < 2 ^ 64 ⌝ }
+    ensures { λ r. ⌜ Put (now (word .entry)) (now (out .entry)) place (now (out .exit)) r ⌝ }
 {
-    if place < out.len() {
-        out[place] = byte;
-    }
+    place + text::put_bytes(out, place, word)
 }
 
-// Puts bytes into an output from a place on, as far as it goes, and answers where they end.
-fn put_bytes(out: &mut [u8], place: usize, bytes: &[u8]) -> usize
-    requires { ⌜ place + length (now bytes) < 2 ^ 64 ⌝ }
-    ensures { λ r. ⌜ Put (now (bytes .entry)) (now (out .entry)) place (now (out .exit)) r ⌝ }
+// Puts a number in decimal digits and what stands after it, and answers where that ends.
+fn put_number(out: &mut [u8], place: usize, number: u64, after: &[u8]) -> usize
+    requires { ⌜ place + length (numberThen (now after) number) < 2 ^ 64 ⌝ }
+    ensures { λ r. ⌜ Put (numberThen (now (after .entry)) number) (now (out .entry)) place (now (out .exit)) r ⌝ }
 {
-    let mut i = 0;
-    while i < bytes.len() {
-        put_byte(out, place + i, bytes[i]);
-        i += 1;
-    }
-    place + i
-}
-
-// Puts a number in decimal digits, and the byte after it.
-fn put_number(out: &mut [u8], place: usize, number: u64, after: u8) -> usize
-    requires { ⌜ place + length (numberThen after number) < 2 ^ 64 ⌝ }
-    ensures { λ r. ⌜ Put (numberThen after number) (now (out .entry)) place (now (out .exit)) r ⌝ }
-{
-    let mut digits = [0u8; 20];
-    let count = io::decimal(number, &mut digits);
-    let end = put_bytes(out, place, &digits[..count]);
-    put_byte(out, end, after);
-    end + 1
+    let end = place + text::put_decimal(out, place, number);
+    put_word(out, end, after)
 }
 
 // Puts the word of a kind, and a space.
@@ -59,10 +43,10 @@ fn put_kind(out: &mut [u8], place: usize, kind: Kind) -> usize
     ensures { λ r. ⌜ Put (kindWord kind) (now (out .entry)) place (now (out .exit)) r ⌝ }
 {
     match kind {
-        Kind::Video => put_bytes(out, place, b"video "),
-        Kind::Audio => put_bytes(out, place, b"audio "),
-        Kind::Other => put_bytes(out, place, b"other "),
-        Kind::End => put_bytes(out, place, b"end "),
+        Kind::Video => put_word(out, place, b"video "),
+        Kind::Audio => put_word(out, place, b"audio "),
+        Kind::Other => put_word(out, place, b"other "),
+        Kind::End => put_word(out, place, b"end "),
     }
 }
 
@@ -72,15 +56,15 @@ fn put_line(out: &mut [u8], place: usize, chunk: Chunk) -> usize
     ensures { λ r. ⌜ Put (lineOf chunk) (now (out .entry)) place (now (out .exit)) r ⌝ }
 {
     let kind = chunk.kind;
-    let at = put_number(out, place, chunk.start as u64, b' ');
+    let at = put_number(out, place, chunk.start as u64, b" ");
     let at = put_kind(out, at, kind);
-    let at = put_number(out, at, chunk.data_type as u64, b' ');
-    put_number(out, at, chunk.len as u64, b'\n')
+    let at = put_number(out, at, chunk.data_type as u64, b" ");
+    put_number(out, at, chunk.len as u64, b"\n")
 }
 
 // Puts the lines of all chunks from a place of the container on, at the start of the output. Where the chunks are refused,
 // they end; a film that was surveyed before has no such chunk.
-fn put_chunks(out: &mut [u8], container: &[u8], place: usize, reading: Reading) -> usize
+fn put_chunks(out: &mut [u8], container: &[u8], place: usize, reading: Applied) -> usize
     requires { ⌜ length (now container) ≤ 16384 ⌝ }
     ensures { λ r. ⌜ Put (linesOf (walkFrom (now (container .entry)) reading place .chunks)) (now (out .entry)) 0 (now (out .exit)) r ⌝ }
 {
@@ -104,10 +88,10 @@ fn put_refusal(out: &mut [u8], refusal: Refusal) -> usize
     ensures { λ r. ⌜ Put (refusalLine refusal) (now (out .entry)) 0 (now (out .exit)) r ⌝ }
 {
     let cause = refusal.cause;
-    let at = put_bytes(out, 0, b"refused ");
-    let at = put_number(out, at, refusal::number_of(cause) as u64, b' ');
-    let at = put_bytes(out, at, b"at ");
-    put_number(out, at, refusal.place as u64, b'\n')
+    let at = put_word(out, 0, b"refused ");
+    let at = put_number(out, at, refusal::number_of(cause) as u64, b" ");
+    let at = put_word(out, at, b"at ");
+    put_number(out, at, refusal.place as u64, b"\n")
 }
 
 // Puts what is printed of a container into an output, as far as it goes, and answers how long it is.
@@ -129,13 +113,11 @@ pub fn lines(container: &[u8], out: &mut [u8]) -> usize
     match film::survey(container, reading) {
         Surveyed::Film {
             header,
+            reading: applied,
             count: _,
             video: _,
             audio: _,
-        } => {
-            let applied = reading::applied_to(header.audio, reading);
-            put_chunks(out, container, header.start, applied)
-        }
+        } => put_chunks(out, container, header.start, applied),
         Surveyed::Refused(refusal) => put_refusal(out, refusal),
     }
 }

@@ -1,6 +1,8 @@
 // Prints the lines of stored containers, each below its title: document 01's example F, whole, cut and
 // padded, chunks of every kind, refusals, and F's payloads. The gate compares them with the file stdout.
 use libc::STDOUT_FILENO;
+use reading::Applied;
+use reading::AudioChoice;
 
 // Stores bytes at the start of a part, as far as it goes.
 fn copy(part: &mut [u8], bytes: &[u8]) {
@@ -189,14 +191,16 @@ fn wrong_chunks() {
     altered(b"a payload that leads past the end\n", 324, b"\0\0\x01\0");
 }
 
-// Prints how many bytes the payload reader hands back at a place.
+// Prints a place and how many bytes the payload reader hands back there.
 fn payload_at(film: &[u8], place: usize) {
-    let payload = chunk::read_payload(film, place, reading::reading_by(1));
-    replay_line::empty()
-        .decimal(place as u64)
-        .word(b" ")
-        .decimal(payload.len() as u64)
-        .end();
+    let reading = Applied {
+        audio: AudioChoice::Chosen,
+    };
+    let payload = chunk::read_payload(film, place, reading);
+    io::print_decimal(STDOUT_FILENO, place as u64);
+    io::write_all(STDOUT_FILENO, b" ");
+    io::print_decimal(STDOUT_FILENO, payload.len() as u64);
+    io::write_all(STDOUT_FILENO, b"\n");
 }
 
 // The payloads of F: that of its video chunk, and none at its end chunk, past it, and as far past it as can be.

@@ -1,8 +1,6 @@
--- No second answer meets a contract of this crate: what a caller learns makes two lines one. Assumes nothing.
+-- No second answer meets a contract of this crate: what a caller learns makes two lines equal. Assumes nothing.
 use mathlib.Core.Path.{_≡_}
-use native.Mathlib.Omega.{arith}
 use Rattle.laws.proofs.OneAnswer.{no-second-answer}
-use Rattle.replay_line.proofs.PlaceLaws.{one-number}
 use Rattle.replay_line.proofs.empty.Reads as empty
 use Rattle.replay_line.proofs.Line.word.Reads as word
 use Rattle.replay_line.proofs.Line.hex_bytes.Reads as hex-bytes
@@ -19,7 +17,7 @@ pub hex-bytes-once : (κs : _) (args : _) (r r′ : _) (exit exit′ : _) → he
 hex-bytes-once κs args r r′ exit exit′ = no-second-answer
 
 pub hex-once : (κs : _) (args : _) (r r′ : _) (exit exit′ : _) → hex.Learnt κs args r exit → hex.Learnt κs args r′ exit′ → r ≡ r′
-hex-once κs args r r′ exit exit′ l l′ = one-number _ _ _ (omega arith) _ _ _ l l′
+hex-once κs args r r′ exit exit′ = no-second-answer
 
 pub decimal-once : (κs : _) (args : _) (r r′ : _) (exit exit′ : _) → decimal.Learnt κs args r exit → decimal.Learnt κs args r′ exit′ → r ≡ r′
-decimal-once κs args r r′ exit exit′ l l′ = one-number _ _ _ (omega arith) _ _ _ l l′
+decimal-once κs args r r′ exit exit′ = no-second-answer

@@ -1,10 +1,10 @@
 // A line of text that is made piece by piece and written at once. A piece that does not fit is left out.
 // No rule of this crate comes from the Rust: it serves the programs that replay recorded answers.
 ghost use mathlib.Core.Path.{_≡_};
-ghost use Prim.Native.Nat.{_-_, _<_, min, max};
+ghost use Prim.Native.Nat.{_-_};
 ghost use lib.ListN.{replicate};
-ghost use Rattle.io.specs.Digits.{glyph};
-ghost use Rattle.replay_line.specs.Lines.{withPiece, hexOf, WithNumber};
+ghost use Rattle.text.specs.Numbers.{decimal, hex, hexBytes};
+ghost use Rattle.replay_line.specs.Lines.{withPiece};
 use libc::STDOUT_FILENO;
 
 // A line so far: the first `len` of the bytes.
@@ -36,17 +36,6 @@ fn room_after(len: usize) -> usize
     ROOM - len
 }
 
-// The hex digit of a number below 16.
-fn hex_digit(n: u8) -> u8
-    requires { ⌜ n < 16 ⌝ }
-    ensures { λ r. ⌜ r ≡ glyph n ⌝ }
-{
-    if n < 10 {
-        return b'0' + n;
-    }
-    b'a' + (n - 10)
-}
-
 impl Line {
     // The line with a word after it.
     pub fn word(self, word: &[u8]) -> Line
@@ -57,42 +46,32 @@ impl Line {
             return self;
         }
         let mut bytes = self.bytes;
-        let mut i = 0;
-        while i < word.len() {
-            bytes[start + i] = word[i];
-            i += 1;
-        }
+        let count = text::put_bytes(&mut bytes, start, word);
         Line {
             bytes,
-            len: start + i,
+            len: start + count,
         }
     }
 
     // The line with two hex digits after it for each byte of a part.
     pub fn hex_bytes(self, part: &[u8]) -> Line
-        ensures { λ r. ⌜ r ≡ withPiece self (hexOf (now (part .entry))) ⌝ }
+        ensures { λ r. ⌜ r ≡ withPiece self (hexBytes (now (part .entry))) ⌝ }
     {
         let start = self.len;
         if room_after(start) / 2 < part.len() {
             return self;
         }
         let mut bytes = self.bytes;
-        let mut i = 0;
-        while i < part.len() {
-            let byte = part[i];
-            bytes[start + 2 * i] = hex_digit(byte / 16);
-            bytes[start + 2 * i + 1] = hex_digit(byte % 16);
-            i += 1;
-        }
+        let count = text::put_hex_bytes(&mut bytes, start, part);
         Line {
             bytes,
-            len: start + 2 * i,
+            len: start + count,
         }
     }
 
     // The line with a number's hex digits after it, and zeros before them up to `width` digits.
     pub fn hex(self, n: u64, width: usize) -> Line
-        ensures { λ r. ⌜ WithNumber 16 (min (max width 1) 16) n self r ⌝ }
+        ensures { λ r. ⌜ r ≡ withPiece self (hex width n) ⌝ }
     {
         let mut digits = [0u8; 16];
         let count = io::hex(n, width, &mut digits);
@@ -101,7 +80,7 @@ impl Line {
 
     // The line with a number's decimal digits after it.
     pub fn decimal(self, n: u64) -> Line
-        ensures { λ r. ⌜ WithNumber 10 1 n self r ⌝ }
+        ensures { λ r. ⌜ r ≡ withPiece self (decimal n) ⌝ }
     {
         let mut digits = [0u8; 20];
         let count = io::decimal(n, &mut digits);

@@ -5,10 +5,10 @@
 use libc::STDIN_FILENO;
 use libc::STDOUT_FILENO;
 
-// One byte more than a container may have here, so that a longer one is told from it.
+// One byte more than a container may have here, so that a longer one is seen to be longer.
 const ROOM: usize = lines::LONGEST + 1;
 
-// Prints a line for each chunk of a container, or the one that tells the refusal.
+// Prints a line for each chunk of a container, or the one of its refusal.
 pub fn print(container: &[u8]) {
     let mut text = io::large_buffer();
     let length = lines::lines(container, &mut text);

@@ -1,6 +1,6 @@
--- `lines::lines` meets its contract: a survey that accepts is of the film whose chunks are printed, and one that refuses tells the refusal. Assumes nothing.
+-- `lines::lines` meets its contract: a survey that accepts is of the film whose chunks are printed, and one that refuses has the refusal. Assumes nothing.
 use mathlib.Core.Path.{sym, _∙_}
-use Rattle.lines.proofs.PutLaws.{put-first}
+use Rattle.text.proofs.PutLaws.{put-first}
 use Rattle.lines.proofs.TextLaws.{too-long, accepted, not-accepted}
 use borrow.Author.Needs.{needs}
 use Rattle.lines.proofs.lines.Statement.{statement}
@@ -21,9 +21,6 @@ survey-requires c κs = search needs
 enum-known-header : tie.Need-enum-known-header
 enum-known-header c = search needs
 
-applied-to-requires : tie.Need-applied-to-requires
-applied-to-requires c κs = search needs
-
 put-chunks-requires : tie.Need-put-chunks-requires
 put-chunks-requires c κs = search needs
 
@@ -38,18 +35,20 @@ same-length-2 c = search needs
 
 returns-2 : tie.Need-returns-2
 returns-2 c =
-    let k = c .before .before .before .before .before .before in
-    let s = k .before .before in
-    put-first (rw (c .before .before .before .before .applied-to .ensures) at (c .before .before .put-chunks .ensures)) (accepted _ (s .before .if1 .left) _ _ _ _ (sym (s .survey .ensures) ∙ k .header .given .1))
+    let put = c .before .before in
+    let film = put .before .before .before in
+    let surveyed = film .before .before in
+    put-first (put .put-chunks .ensures) (accepted _ (surveyed .before .if1 .left) _ _ _ _ _ (sym (surveyed .survey .ensures) ∙ film .header .given .1))
 
 same-length-3 : tie.Need-same-length-3
 same-length-3 c = search needs
 
 returns-3 : tie.Need-returns-3
 returns-3 c =
-    let k = c .before .before .before .before .before in
-    let s = k .before .before in
-    put-first (c .before .before .put-refusal2 .ensures) (not-accepted _ (s .before .if1 .left) _ (sym (s .survey .ensures) ∙ k .refusal .given .1))
+    let put = c .before .before in
+    let refused = put .before .before .before in
+    let surveyed = refused .before .before in
+    put-first (put .put-refusal2 .ensures) (not-accepted _ (surveyed .before .if1 .left) _ (sym (surveyed .survey .ensures) ∙ refused .refusal .given .1))
 
 pub lines-spec : {M : Type 1} → statement M
 lines-spec =
@@ -60,7 +59,6 @@ lines-spec =
     returns
     survey-requires
     enum-known-header
-    applied-to-requires
     put-chunks-requires
     enum-known-refusal
     put-refusal-requires-2

@@ -1,26 +1,44 @@
 -- `lines::put_line` meets its contract: its four words are put one after the other, and each fits where the line does. Assumes nothing.
 use native.Mathlib.Omega.{arith}
 use Rattle.lines.specs.Lines.{lineOf}
+use Rattle.text.proofs.PutLaws.{put-then}
 use Rattle.lines.proofs.LineLaws.{line-length}
-use Rattle.lines.proofs.PutLaws.{put-then}
 use borrow.Author.Needs.{needs}
 use Rattle.lines.proofs.put_line.Statement.{statement}
 use Rattle.lines.proofs.put_line.Tie as tie
 
+slice-aggregate-put-number : tie.Need-slice-aggregate-put-number
+slice-aggregate-put-number c = search needs
+
 put-number-requires : tie.Need-put-number-requires
-put-number-requires c κs = omega (arith, line-length (c .before .before .args .chunk))
+put-number-requires c κs = omega (arith, line-length (c .before .before .before .args .chunk))
 
 put-kind-requires : tie.Need-put-kind-requires
-put-kind-requires c κs = omega (arith, line-length (c .before .before .before .before .before .before .args .chunk))
+put-kind-requires c κs =
+    let start = c .before .before .before in
+    omega (arith, line-length (start .before .before .before .before .args .chunk))
 
 cast-put-number : tie.Need-cast-put-number
 cast-put-number c = search needs
 
+slice-aggregate-put-number-2 : tie.Need-slice-aggregate-put-number-2
+slice-aggregate-put-number-2 c = search needs
+
 put-number-requires-2 : tie.Need-put-number-requires-2
-put-number-requires-2 c κs = omega (arith, line-length (c .before .before .before .before .before .before .before .before .before .before .before .args .chunk))
+put-number-requires-2 c κs =
+    let kind = c .before .before .before .before .before in
+    let start = kind .before .before .before .before in
+    omega (arith, line-length (start .before .before .before .before .args .chunk))
+
+slice-aggregate-put-number-3 : tie.Need-slice-aggregate-put-number-3
+slice-aggregate-put-number-3 c = search needs
 
 put-number-requires-3 : tie.Need-put-number-requires-3
-put-number-requires-3 c κs = omega (arith, line-length (c .before .before .before .before .before .before .before .before .before .before .before .before .before .before .before .args .chunk))
+put-number-requires-3 c κs =
+    let data-type = c .before .before .before .before in
+    let kind = data-type .before .before .before .before .before .before in
+    let start = kind .before .before .before .before in
+    omega (arith, line-length (start .before .before .before .before .args .chunk))
 
 same-length : tie.Need-same-length
 same-length c = search needs
@@ -29,8 +47,8 @@ returns : tie.Need-returns
 unfolding lineOf
 returns c =
     let len = c .before .before in
-    let data-type = len .before .before .before .before in
-    let kind = data-type .before .before .before .before .before in
+    let data-type = len .before .before .before .before .before in
+    let kind = data-type .before .before .before .before .before .before in
     let start = kind .before .before .before .before in
     put-then (put-then (put-then (start .put-number .ensures) (kind .put-kind .ensures)) (data-type .put-number2 .ensures)) (len .put-number3 .ensures)
 
@@ -38,10 +56,13 @@ pub put-line-spec : {M : Type 1} → statement M
 put-line-spec =
     tie.close
     (tie.spec
+    slice-aggregate-put-number
     put-number-requires
     put-kind-requires
     cast-put-number
+    slice-aggregate-put-number-2
     put-number-requires-2
+    slice-aggregate-put-number-3
     put-number-requires-3
     same-length
     returns)

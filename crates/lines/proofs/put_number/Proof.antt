@@ -1,38 +1,26 @@
--- `lines::put_number` meets its contract: the digits that `io::decimal` gives are the decimal digits, and the byte is put where they end. Assumes nothing.
-use mathlib.Core.Path.{ap, _∙_}
+-- `lines::put_number` meets its contract: what stands after the number is put where its digits end. Assumes nothing.
 use native.Mathlib.Omega.{arith}
-use lib.ListN.{length}
 use Rattle.lines.specs.Lines.{numberThen}
-use Rattle.lines.proofs.DecimalLaws.{decimal-digits}
+use Rattle.text.proofs.PutLaws.{put-then}
 use Rattle.lines.proofs.LineLaws.{number-length}
-use Rattle.lines.proofs.PutLaws.{put-one, put-then}
 use borrow.Author.Needs.{needs}
 use Rattle.lines.proofs.put_number.Statement.{statement}
 use Rattle.lines.proofs.put_number.Tie as tie
 
-decimal-requires : tie.Need-decimal-requires
-decimal-requires c κs = search needs
+put-decimal-requires : tie.Need-put-decimal-requires
+put-decimal-requires c κs = search needs
 
-array-share-prefix-digits : tie.Need-array-share-prefix-digits
-array-share-prefix-digits c = search needs
+add-end : tie.Need-add-end
+add-end c =
+    let digits = c .before .before in
+    let a = digits .before .before .before .before .args in
+    omega (arith, digits .put-decimal .ensures .ends, number-length (a .after .now) (a .number))
 
-slice-aggregate-put-bytes : tie.Need-slice-aggregate-put-bytes
-slice-aggregate-put-bytes c = search needs
-
-put-bytes-requires : tie.Need-put-bytes-requires
-put-bytes-requires c κs =
-    let k = c .before .before in
-    let a = k .before .before .before .args in
-    rw (k .decimal .ensures .1 .1 ∙ decimal-digits (k .decimal .result) _ (omega arith) (k .decimal .ensures .1 .0)) (omega (arith, number-length (a .after) (a .number)))
-
-put-byte-requires : tie.Need-put-byte-requires
-put-byte-requires c κs = search needs
-
-add-result : tie.Need-add-result
-add-result c =
-    let k = c .before .before .before .before .before .before .before .before .before in
-    let a = k .before .before .before .args in
-    omega (arith, ap length (k .decimal .ensures .1 .1 ∙ decimal-digits (k .decimal .result) _ (omega arith) (k .decimal .ensures .1 .0)), number-length (a .after) (a .number))
+put-word-requires : tie.Need-put-word-requires
+put-word-requires c κs =
+    let digits = c .before .before .before in
+    let a = digits .before .before .before .before .args in
+    omega (arith, digits .put-decimal .ensures .ends, number-length (a .after .now) (a .number))
 
 same-length : tie.Need-same-length
 same-length c = search needs
@@ -40,18 +28,9 @@ same-length c = search needs
 returns : tie.Need-returns
 unfolding numberThen
 returns c =
-    let k = c .before .before .before .before .before .before .before .before .before in
-    rw (c .before .before .put-byte .ensures) (put-then (rw (k .decimal .ensures .1 .1 ∙ decimal-digits (k .decimal .result) _ (omega arith) (k .decimal .ensures .1 .0)) at (c .before .before .before .before .before .before .put-bytes .ensures)) (put-one _ _ _))
+    let word = c .before .before in
+    put-then (word .before .before .before .before .put-decimal .ensures) (word .put-word .ensures)
 
 pub put-number-spec : {M : Type 1} → statement M
 put-number-spec =
-    tie.close
-    (tie.spec
-    decimal-requires
-    array-share-prefix-digits
-    slice-aggregate-put-bytes
-    put-bytes-requires
-    put-byte-requires
-    add-result
-    same-length
-    returns)
+    tie.close (tie.spec put-decimal-requires add-end put-word-requires same-length returns)

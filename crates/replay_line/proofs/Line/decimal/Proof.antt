@@ -1,5 +1,7 @@
 -- `replay_line::Line::decimal` meets its contract: the digits are put as a word. Assumes nothing.
 use mathlib.Core.Path.{ap, _∙_}
+use native.Mathlib.Omega.{arith}
+use Rattle.text.proofs.NumberLaws.{decimal-digits}
 use Rattle.replay_line.specs.Lines.{withPiece}
 use borrow.Author.Needs.{needs}
 use Rattle.replay_line.proofs.Line.decimal.Statement.{statement}
@@ -20,7 +22,7 @@ word-requires c κs = search needs
 returns : tie.Need-returns
 returns c =
     let d = c .before .before .decimal in
-    record { places = d .result; fewest = d .ensures .1 .0; put = c .word .ensures ∙ ap (withPiece _) (d .ensures .1 .1) }
+    c .word .ensures ∙ ap (withPiece _) (d .ensures .1 .1 ∙ decimal-digits (d .result) _ (omega arith) (d .ensures .1 .0))
 
 pub decimal-spec : {M : Type 1} → statement M
 decimal-spec =

@@ -1,12 +1,11 @@
--- `lines::put_bytes` meets its contract: with the bytes that are left put after it, what stands there is the whole. Assumes nothing.
+-- `text::put_bytes` meets its contract: with the bytes that are left put after it, what stands there is the whole. Assumes nothing.
 use Prim.Native.Nat.{_+_, _-_, _≤_}
-use native.Mathlib.Nat.{add-zero}
 use native.Mathlib.Omega.{arith}
 use lib.ListN.{length, drop}
-use Rattle.lines.proofs.PutLaws.{Left, all-left, byte-put, bytes-put, left-length}
+use Rattle.text.proofs.PutLaws.{Left, all-left, byte-put, bytes-put, left-length}
 use borrow.Author.Needs.{needs}
-use Rattle.lines.proofs.put_bytes.Statement.{statement}
-use Rattle.lines.proofs.put_bytes.Tie as tie
+use Rattle.text.proofs.put_bytes.Statement.{statement}
+use Rattle.text.proofs.put_bytes.Tie as tie
 
 abbrev Inv-loop : tie.InvT-loop
 Inv-loop out₀ place bytes i₀ out i = (i ≤ length bytes) × Left (drop i bytes) out (place + i) bytes out₀ place
@@ -15,10 +14,7 @@ abbrev μ-loop : tie.MeasureT-loop
 μ-loop out₀ place bytes i₀ out i = length bytes - i
 
 loop-holds : tie.Need-loop-holds Inv-loop μ-loop
-loop-holds c = (omega arith, rw add-zero (all-left _ _ _))
-
-add-put-byte : tie.Need-add-put-byte Inv-loop μ-loop
-add-put-byte c = search needs
+loop-holds c = (omega arith, all-left _ _ _)
 
 shared-slice-read-put-byte : tie.Need-shared-slice-read-put-byte Inv-loop μ-loop
 shared-slice-read-put-byte c = search needs
@@ -34,12 +30,9 @@ loop-less c = search needs
 
 loop-again : tie.Need-loop-again Inv-loop μ-loop
 loop-again c =
-    let k = c .before .before in
-    let l = k .before .before .before .before in
-    (omega arith, rw (k .put-byte .ensures) (byte-put _ _ _ _ _ (l .loop .inv .1) (k .before .before .before .loop-test .taken)))
-
-add-result : tie.Need-add-result Inv-loop μ-loop
-add-result c = search needs
+    let put = c .before .before in
+    let test = put .before .before .before in
+    (omega arith, rw (put .put-byte .ensures) (byte-put _ _ _ _ _ (test .before .loop .inv .1) (test .loop-test .taken)))
 
 same-length : tie.Need-same-length Inv-loop μ-loop
 same-length c = left-length (c .before .loop .inv .1)
@@ -54,12 +47,10 @@ put-bytes-spec =
     Inv-loop
     μ-loop
     loop-holds
-    add-put-byte
     shared-slice-read-put-byte
     put-byte-requires
     add-i
     loop-less
     loop-again
-    add-result
     same-length
     returns)

@@ -1,4 +1,4 @@
--- Bytes that are put into a lent output as far as it goes. Ours, for the contracts of `lines`: document 01 refuses outputs that are too short, and the program has room for every text.
+-- Bytes that are put into a lent output, as far as it goes.
 use mathlib.Core.Path.{_≡_}
 use mathlib.Core.List.{List}
 use Prim.Native.Nat.{ℕ, _+_}

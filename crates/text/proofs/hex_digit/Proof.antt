@@ -1,9 +1,9 @@
--- `replay_line::hex_digit` meets its contract: the test picks the letter or the figure. Assumes nothing.
+-- `text::hex_digit` meets its contract: the test picks the letter or the figure. Assumes nothing.
 use native.Mathlib.Omega.{arith}
 use borrow.Author.Tests.{lt-ltb, le-ltb}
 use borrow.Author.Needs.{needs}
-use Rattle.replay_line.proofs.hex_digit.Statement.{statement}
-use Rattle.replay_line.proofs.hex_digit.Tie as tie
+use Rattle.text.proofs.hex_digit.Statement.{statement}
+use Rattle.text.proofs.hex_digit.Tie as tie
 
 add-result : tie.Need-add-result
 add-result c = search needs
