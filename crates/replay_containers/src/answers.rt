@@ -1,4 +1,5 @@
 // The lines that are written: what our functions answer on a container, extracted or listed.
+use crate::lists;
 use codec::AudioKind;
 use codec::Codec;
 use codec::VideoKind;
@@ -6,26 +7,23 @@ use extract::Contents;
 use extract::Extracted;
 use film_name::Name;
 use list::ChunkRecord;
-use list::Listed;
-use list::Plan;
 use reading::Reading;
-use refusal::Cause;
-use refusal::Refusal;
+use reading::ReadingBytes;
 use replay_line::Line;
 use unmasking::Key;
 
 // Writes a refusal's number and place, and the type where it is one that is unknown.
-fn write_refusal(refusal: Refusal) {
-    let cause = refusal.cause;
+fn write_refused(number: u8, place: usize, unknown_type: u8) {
     let line = replay_line::empty()
         .word(b"refused ")
-        .decimal(refusal::number_of(cause) as u64)
+        .decimal(number as u64)
         .word(b" at ")
-        .decimal(refusal.place as u64);
-    match cause {
-        Cause::UnknownType(kind) => line.word(b" type ").decimal(kind as u64).end(),
-        _ => line.end(),
+        .decimal(place as u64);
+    if unknown_type == 0 {
+        line.end();
+        return;
     }
+    line.word(b" type ").decimal(unknown_type as u64).end();
 }
 
 // A line with a codec's number after it, or a dash where there is none.
@@ -89,7 +87,15 @@ pub(crate) fn write_film<'a>(container: &'a [u8], reading: Reading, key: Key, fa
             write_video(contents, &video);
             write_audio(contents, &audio);
         }
-        Extracted::Refused(refusal) => write_refusal(refusal),
+        Extracted::Refused(refusal) => {
+            let cause = refusal.cause;
+            let beside = refusal::beside_of(cause);
+            write_refused(
+                refusal::number_of(cause),
+                refusal.place,
+                beside.unknown_type,
+            );
+        }
     }
 }
 
@@ -112,25 +118,25 @@ fn write_record(made: ChunkRecord) {
         .end();
 }
 
-// Writes the records that a filler makes by a plan.
-fn write_records(container: &[u8], plan: Plan) {
-    let count = plan.count;
-    let reading = plan.reading;
-    let mut place = plan.start;
-    let mut made = 0;
-    while made < count {
-        let step = list::record_at(container, place, reading);
-        write_record(step.made);
-        place = step.next;
-        made += 1;
+// Writes so many records of a list.
+fn write_records(records: [ChunkRecord; lists::ROOM], count: usize) {
+    let mut i = 0;
+    while i < count {
+        if i < lists::ROOM {
+            write_record(records[i]);
+        }
+        i += 1;
     }
 }
 
-// Writes the answer on a listing. A list of as many records as the container has bytes is never too short.
-pub(crate) fn write_list(container: &[u8], audio: u8) {
-    let room = container.len();
-    match list::list_answer(container, reading::reading_by(audio), room) {
-        Listed::Count(_) => write_records(container, list::list_plan(container, audio, room)),
-        Listed::Refused(refusal) => write_refusal(refusal),
+// Writes the answer on a listing.
+pub(crate) fn write_list(container: &[u8], reading: ReadingBytes) {
+    let filled = lists::list_of(container, reading);
+    let reply = filled.reply;
+    let records = filled.records;
+    if reply.number == 0 {
+        write_records(records, reply.count);
+        return;
     }
+    write_refused(reply.number, reply.refused_at, reply.unknown_type);
 }

@@ -1,5 +1,6 @@
 // The questions of the list: what an extraction and a listing are asked with, read from the text of a line.
 use reading::Reading;
+use reading::ReadingBytes;
 use unmasking::Key;
 
 // The longest fallback name of the list.
@@ -24,12 +25,18 @@ fn is_choice(text: &[u8]) -> bool {
     is_only(text, b'1')
 }
 
-// The number of such a choice.
-fn choice_of(text: &[u8]) -> u8 {
+// The reading by such a choice.
+fn reading_of(text: &[u8]) -> ReadingBytes {
+    let mut audio = 1;
     if is_only(text, b'0') {
-        return 0;
+        audio = 0;
     }
-    1
+    ReadingBytes {
+        audio,
+        channel: 0,
+        payloads: 0,
+        tables: 0,
+    }
 }
 
 // Writes the list of the chunks by the choice of audio, and answers whether it is one.
@@ -37,7 +44,7 @@ pub(crate) fn replay_list(text: &[u8], container: &[u8]) -> bool {
     if !is_choice(text) {
         return false;
     }
-    crate::answers::write_list(container, choice_of(text));
+    crate::answers::write_list(container, reading_of(text));
     true
 }
 
@@ -93,6 +100,6 @@ pub(crate) fn replay_film(text: &[u8], container: &[u8]) -> bool {
     if !is_choice(&text[..gap]) {
         return false;
     }
-    let reading = reading::reading_by(choice_of(&text[..gap]));
+    let reading = reading::reading_by(reading_of(&text[..gap]));
     replay_keyed(container, reading, fields::rest_from(text, gap + 1))
 }

@@ -1,26 +1,29 @@
--- `replay_containers::answers::write_records` is safe and ends: each turn makes one record of a count. Assumes nothing.
+-- `replay_containers::answers::write_records` is safe and ends: each turn goes one record on. Assumes nothing.
 use Prim.Native.Nat.{_-_}
 use borrow.Author.Needs.{needs}
 use Rattle.replay_containers.proofs.answers.write_records.Statement.{statement}
 use Rattle.replay_containers.proofs.answers.write_records.Tie as tie
 
 abbrev Inv-loop : tie.InvT-loop
-Inv-loop container count reading place₀ made₀ place made = Unit {0}
+Inv-loop count records i₀ i = Unit {0}
 
 abbrev μ-loop : tie.MeasureT-loop
-μ-loop container count reading place₀ made₀ place made = count - made
+μ-loop count records i₀ i = count - i
 
 loop-holds : tie.Need-loop-holds Inv-loop μ-loop
 loop-holds c = search needs
 
-record-at-requires : tie.Need-record-at-requires Inv-loop μ-loop
-record-at-requires c κs = search needs
+mul-write-record : tie.Need-mul-write-record Inv-loop μ-loop
+mul-write-record c = search needs
+
+array-copy-out-write-record : tie.Need-array-copy-out-write-record Inv-loop μ-loop
+array-copy-out-write-record c = search needs
 
 write-record-requires : tie.Need-write-record-requires Inv-loop μ-loop
 write-record-requires c κs = search needs
 
-add-made : tie.Need-add-made Inv-loop μ-loop
-add-made c = search needs
+add-i : tie.Need-add-i Inv-loop μ-loop
+add-i c = search needs
 
 loop-less : tie.Need-loop-less Inv-loop μ-loop
 loop-less c = search needs
@@ -38,9 +41,10 @@ write-records-spec =
     Inv-loop
     μ-loop
     loop-holds
-    record-at-requires
+    mul-write-record
+    array-copy-out-write-record
     write-record-requires
-    add-made
+    add-i
     loop-less
     loop-again
     returns)
