@@ -42,28 +42,32 @@ module _ (f : ℕ → ℕ) (s₀ : List ℕ) where
         above = λ p l. getD-set-other s k p v 0 (λ q. omega arith) ∙ u .above p (omega arith);
       }
 
-  -- a byte stays
-  pub upto-skip : (s : List ℕ) (k : ℕ) → Upto f s₀ s k → at s₀ k ≡ f k → Upto f s₀ s (k + 1)
-  upto-skip s k u e =
+  -- the bytes up to n stay
+  pub upto-over : (s : List ℕ) (k n : ℕ) → Upto f s₀ s k → k ≤ n → ((p : ℕ) → k ≤ p → p < n → at s₀ p ≡ f p) → Upto f s₀ s n
+  upto-over s k n u h e =
       record {
         len = u .len;
-        below = λ p l. ⊎-elim (λ (b : p < k). u .below p b) (λ (b : k ≤ p). let q : p ≡ k = omega arith in rw q (u .above k (omega arith) ∙ e)) (side p k);
+        below = λ p l. ⊎-elim (λ (b : p < k). u .below p b) (λ (b : k ≤ p). u .above p b ∙ e p b l) (side p k);
         above = λ p l. u .above p (omega arith);
       }
 
-  -- the part from i to e becomes y
-  pub upto-part : (s y : List ℕ) (i e : ℕ) → Upto f s₀ s i → i ≤ e → e ≤ length s → length y ≡ e - i
+  -- a byte stays
+  pub upto-skip : (s : List ℕ) (k : ℕ) → Upto f s₀ s k → at s₀ k ≡ f k → Upto f s₀ s (k + 1)
+  upto-skip s k u e = upto-over s k (k + 1) u (omega arith) (λ p h l. let q : p ≡ k = omega arith in rw q e)
+
+  -- the part from i to e, which reaches back to i, becomes y
+  pub upto-part : (s y : List ℕ) (i k e : ℕ) → Upto f s₀ s k → i ≤ k → k ≤ e → e ≤ length s → length y ≡ e - i
       → ((j : ℕ) → j < e - i → at y j ≡ f (i + j))
       → Upto f s₀ (take i s ++ (y ++ drop (e - i) (drop i s))) e
-  upto-part s y i e u h k ly g =
+  upto-part s y i k e u back h l ly g =
       record {
-        len = splice-length s y i e h k ly ∙ u .len;
-        below = λ p l. ⊎-elim (λ (b : p < i). splice-below s y i e h k ly p b ∙ u .below p b)
+        len = splice-length s y i e (omega arith) l ly ∙ u .len;
+        below = λ p m. ⊎-elim (λ (b : p < i). splice-below s y i e (omega arith) l ly p b ∙ u .below p (omega arith))
             (λ (b : i ≤ p).
             let w : i + (p - i) ≡ p = omega arith in
-            splice-in s y i e h k ly p b l ∙ g (p - i) (omega arith) ∙ ap f w)
+            splice-in s y i e (omega arith) l ly p b m ∙ g (p - i) (omega arith) ∙ ap f w)
             (side p i);
-        above = λ p l. splice-above s y i e h k ly p l ∙ u .above p (omega arith);
+        above = λ p m. splice-above s y i e (omega arith) l ly p m ∙ u .above p (omega arith);
       }
 
 -- what was written are the first n of a list

@@ -1,4 +1,6 @@
 pub mod RowLaws
+pub mod ClearLaws
+pub mod LaneLaws
 pub mod AudioLaws
 pub mod TailLaws
 pub mod HeadLaws

@@ -32,7 +32,7 @@ pub upto-xored : (f : ℕ → ℕ) (s₀ s y row : List ℕ) (i e : ℕ) → Upt
     → ((lane : ℕ) → lane < e - i → bitXor (at s₀ (i + lane)) (at row lane) ≡ f (i + lane))
     → Upto f s₀ (take i s ++ (y ++ drop (e - i) (drop i s))) e
 upto-xored f s₀ s y row i e u h k q g =
-    upto-part f s₀ s y i e u h k (ap length q ∙ xored-length _ row ∙ part-length s i e k)
+    upto-part f s₀ s y i i e u (omega arith) h k (ap length q ∙ xored-length _ row ∙ part-length s i e k)
     (λ lane l.
     ap (λ (z : List ℕ). at z lane) q ∙ xored-part s row i e lane k l
     ∙ ap (λ (z : ℕ). bitXor z (at row lane)) (u .above (i + lane) (omega arith))

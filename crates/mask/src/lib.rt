@@ -2,9 +2,10 @@
 // Document 01, "Key table and masks". From the Rust: `mask_video` and `mask_audio`, which unmask,
 // and `apply_video_mask` and `apply_audio_mask`, which mask a copy.
 ghost use mathlib.Core.Path.{_≡_};
-ghost use Prim.Native.Nat.{_≤_};
+ghost use Prim.Native.Nat.{_≤_, _<_};
 ghost use lib.ListN.{length};
-ghost use Rattle.mask.specs.Rows.{xored};
+ghost use lib.Dec.{eqb};
+ghost use Rattle.mask.specs.Rows.{xored, clearedWhere, clearedRows};
 ghost use Rattle.mask.specs.Audio.{maskedAudio};
 ghost use Rattle.mask.specs.Video.{clearTail, xoredHead, storedTail, unmaskedVideo, maskedVideo};
 use key::Keys;
@@ -17,6 +18,9 @@ const TAIL: usize = 0x140;
 
 // The bytes of a row.
 const ROW: usize = 0x20;
+
+// The bytes of eight rows.
+const EIGHT: usize = 0x100;
 
 // A shorter video payload is not masked.
 const SHORTEST_VIDEO: usize = 0x240;
@@ -73,24 +77,90 @@ pub fn mask_audio(payload: &mut [u8], keys: Keys)
     }
 }
 
-// Makes the tail clear, row by row: `mask` is the clear row before, XORed with V.
-fn clear_tail(payload: &mut [u8], v: [u8; 32])
-    requires { ⌜ 0x140 ≤ length (now payload) ⌝ }
-    ensures { λ _. ⌜ now (payload .exit) ≡ clearTail v (now (payload .entry)) ⌝ }
+// Makes the row after a clear one clear, as far as it goes.
+fn clear_row(rows: &mut [u8], v: &[u8; 32])
+    requires { ⌜ (0x20 ≤ length (now rows)) × (length (now rows) ≤ 0x40) ⌝ }
+    ensures { λ _. ⌜ now (rows .exit) ≡ clearedRows (now (v .entry)) (now (rows .entry)) ⌝ }
 {
-    let n = payload.len();
-    let rows = (n - TAIL) / ROW;
-    let mut mask = v;
+    let n = rows.len() - ROW;
+    let mut lane = 0;
+    while lane < n {
+        rows[ROW + lane] = rows[ROW + lane] ^ (rows[lane] ^ v[lane]);
+        lane += 1;
+    }
+}
+
+// Makes the rows after a clear one clear, one by one; the last may be short.
+fn clear_each(rows: &mut [u8], v: &[u8; 32])
+    requires { ⌜ 0x20 ≤ length (now rows) ⌝ }
+    ensures { λ _. ⌜ now (rows .exit) ≡ clearedRows (now (v .entry)) (now (rows .entry)) ⌝ }
+{
+    let whole = rows.len() / ROW - 1;
     let mut r = 0;
-    while r < rows {
-        let start = TAIL + r * ROW;
-        let end = start + ROW;
-        xor_in(&mut payload[start..end], mask);
-        mask = xor_of(&payload[start..end], v);
+    while r < whole {
+        let start = r * ROW;
+        let end = start + 2 * ROW;
+        clear_row(&mut rows[start..end], v);
         r += 1;
     }
-    let start = TAIL + rows * ROW;
-    xor_in(&mut payload[start..], mask);
+    let start = whole * ROW;
+    clear_row(&mut rows[start..], v);
+}
+
+// Makes one lane of the eight rows after a clear one clear. V's byte is read once; read in each turn it costs 7 in 100.
+fn clear_lane(rows: &mut [u8], v: &[u8; 32], lane: usize)
+    requires { ⌜ (length (now rows) ≡ 0x120) × (lane < 0x20) ⌝ }
+    ensures { λ _. ⌜ now (rows .exit) ≡ clearedWhere (λ l. eqb l lane) (now (v .entry)) (now (rows .entry)) ⌝ }
+{
+    let mask = v[lane];
+    let mut clear = rows[lane];
+    let mut r = 1;
+    while r < 9 {
+        let at = r * ROW + lane;
+        clear = rows[at] ^ (clear ^ mask);
+        rows[at] = clear;
+        r += 1;
+    }
+}
+
+// Makes the eight rows after a clear one clear, lane by lane. The compiler takes 16 lanes at a time, and keeps their clear bytes
+// in registers; row by row through the buffer, each row would wait until the one before it is stored.
+fn clear_eight(rows: &mut [u8], v: &[u8; 32])
+    requires { ⌜ length (now rows) ≡ 0x120 ⌝ }
+    ensures { λ _. ⌜ now (rows .exit) ≡ clearedRows (now (v .entry)) (now (rows .entry)) ⌝ }
+{
+    let mut lane = 0;
+    while lane < ROW {
+        clear_lane(rows, v, lane);
+        lane += 1;
+    }
+}
+
+// Makes the rows after a clear one clear, eight in a turn, and then what is left.
+fn clear_rows(rows: &mut [u8], v: &[u8; 32])
+    requires { ⌜ 0x20 ≤ length (now rows) ⌝ }
+    ensures { λ _. ⌜ now (rows .exit) ≡ clearedRows (now (v .entry)) (now (rows .entry)) ⌝ }
+{
+    let turns = (rows.len() - ROW) / EIGHT;
+    let mut turn = 0;
+    while turn < turns {
+        let start = turn * EIGHT;
+        let end = start + EIGHT + ROW;
+        clear_eight(&mut rows[start..end], v);
+        turn += 1;
+    }
+    let start = turns * EIGHT;
+    clear_each(&mut rows[start..], v);
+}
+
+// Makes the tail clear: its first row by V, and each other by the clear row before it and V.
+fn clear_tail(payload: &mut [u8], v: &[u8; 32])
+    requires { ⌜ 0x160 ≤ length (now payload) ⌝ }
+    ensures { λ _. ⌜ now (payload .exit) ≡ clearTail (now (v .entry)) (now (payload .entry)) ⌝ }
+{
+    let first = *v;
+    xor_in(&mut payload[TAIL..TAIL + ROW], first);
+    clear_rows(&mut payload[TAIL..], v);
 }
 
 // XORs the head's eight rows, by a clear tail: `mask` is T, XORed with the tail's rows so far.
@@ -140,9 +210,9 @@ pub fn unmask_video(payload: &mut [u8], keys: Keys)
     if payload.len() < SHORTEST_VIDEO {
         return;
     }
-    let v = keys.v;
     let t = keys.t;
-    clear_tail(payload, v);
+    // V is lent, so that no second copy of it is made.
+    clear_tail(payload, &keys.v);
     xor_head(payload, t);
 }
 

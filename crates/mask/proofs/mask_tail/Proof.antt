@@ -7,9 +7,9 @@ use borrow.Author.Needs.{needs}
 use lib.ListN.{length, length-take, length-drop}
 use Rattle.laws.specs.Lists.{at}
 use Rattle.laws.proofs.UptoLaws.{Upto, upto-start, upto-to, upto-end}
-use Rattle.mask.specs.Video.{tail, stored, withTailAt, withTail}
+use Rattle.mask.specs.Video.{stored, withTailAt, withTail}
 use Rattle.mask.proofs.RowLaws.{upto-xored}
-use Rattle.mask.proofs.TailLaws.{prior, prior-start, prior-next, stored-row, tail-before, tail-row}
+use Rattle.mask.proofs.TailLaws.{prior, prior-start, prior-next, stored-row, tail-before}
 use Rattle.mask.proofs.mask_tail.Statement.{statement}
 use Rattle.mask.proofs.mask_tail.Tie as tie
 
@@ -17,7 +17,7 @@ abbrev Inv-loop : tie.InvT-loop
 Inv-loop payload₀ v n rows mask₀ r₀ payload mask r =
     (0x140 ≤ length payload₀) × (rows ≡ (length payload₀ - 0x140) / 0x20) × (r ≤ rows)
     × Upto (withTailAt (stored v payload₀) payload₀) payload₀ payload (0x140 + r * 0x20)
-    × ((lane : ℕ) → lane < 0x20 → at mask lane ≡ prior (tail payload₀) v r lane)
+    × ((lane : ℕ) → lane < 0x20 → at mask lane ≡ prior v payload₀ r lane)
 
 abbrev μ-loop : tie.MeasureT-loop
 μ-loop payload₀ v n rows mask₀ r₀ payload mask r = rows - r
@@ -74,7 +74,7 @@ loop-again c =
       refl,
       search needs,
       upto-to (upto-xored _ _ _ _ _ _ _ (l .inv .3) (omega arith) (omega arith) (c .before .before .xor-in .ensures)
-          (λ lane h. tail-row _ _ _ _ (l .mask) _ (l .r) lane (omega arith) (omega arith) (l .inv .4 lane (omega arith)) (stored-row _ _ (l .r) lane))) (omega arith),
+          (λ lane h. stored-row _ _ (l .mask) _ (l .r) lane (omega arith) (omega arith) (l .inv .4 lane (omega arith)))) (omega arith),
       λ lane h. prior-next _ _ _ _ (l .r) lane (omega arith) (c .before .before .before .before .xor-of .ensures) (l .inv .3 .above _ (omega arith)) h,
     )
 
@@ -105,7 +105,7 @@ returns c =
     let l = c .before .before .before .before .before .loop in
     upto-end _ _ _ (length (l .payload)) _
     (upto-xored _ _ _ _ _ _ _ (upto-to (l .inv .3) (omega arith)) (omega arith) (omega arith) (c .before .before .xor-in2 .ensures)
-    (λ lane h. tail-row _ _ _ _ (l .mask) _ (l .r) lane (omega arith) (omega arith) (l .inv .4 lane (omega arith)) (stored-row _ _ (l .r) lane)))
+    (λ lane h. stored-row _ _ (l .mask) _ (l .r) lane (omega arith) (omega arith) (l .inv .4 lane (omega arith))))
     refl (omega arith)
 
 pub mask-tail-spec : {M : Type 1} → statement M

@@ -28,7 +28,7 @@ returns-2 : tie.Need-returns-2
 unfolding unmaskedVideo
 returns-2 c =
     let half = c .before .before .before .before .before .before in
-    let start = half .before .before .before .before .before .before in
+    let start = half .before .before .before .before .before .before .before in
     let long : 0x240 ≤ length (start .args .payload .now) = omega arith in
     rw (le-ltb _ _ long)
     (c .before .before .xor-head .ensures ∙ ap (xoredHead _) (half .clear-tail .ensures))
