@@ -1,7 +1,7 @@
 // How a container is read: what a caller asks for, and what of it applies to one film. Both go by value.
-// Document 01, "Chunks": audio is taken "if present and chosen".
+// Document 01, "Chunks": audio is taken "if present and chosen". Document 02, §5: how a table's columns are read.
 ghost use mathlib.Core.Path.{_≡_};
-ghost use Rattle.reading.specs.Choices.{isChosen, readingBy, appliedTo};
+ghost use Rattle.reading.specs.Choices.{isChosen, choiceBy, modeBy, readingBy, appliedTo};
 
 // Whether audio payloads are asked for.
 pub enum AudioChoice {
@@ -9,9 +9,18 @@ pub enum AudioChoice {
     Chosen,
 }
 
+// How the columns of tables are read.
+pub enum TableMode {
+    // As the Rust reads them: each that has no constant has a value in every row.
+    Original,
+    // One whose high nibble is 1 takes no room, and 1, 3, 5 and 7 are the only high nibbles.
+    ZeroColumns,
+}
+
 // How to read, as a caller asks.
 pub struct Reading {
     pub audio: AudioChoice,
+    pub tables: TableMode,
 }
 
 // How one film is read: what was asked, as far as the film has it.
@@ -19,7 +28,7 @@ pub struct Applied {
     pub audio: AudioChoice,
 }
 
-// How to read, as C asks. Only `audio` is looked at; the other bytes keep room for choices to come.
+// How to read, as C asks. Only `audio` and `tables` are looked at; the other bytes keep room for choices to come.
 #[repr(C)]
 pub struct ReadingBytes {
     pub audio: u8,
@@ -38,17 +47,33 @@ pub fn is_chosen(choice: AudioChoice) -> bool
     }
 }
 
-// What C asks for: audio by every number but 0.
+// The audio choice by a number: audio by every number but 0.
+fn choice_by(number: u8) -> AudioChoice
+    ensures { λ r. ⌜ r ≡ choiceBy number ⌝ }
+{
+    if number == 0 {
+        return AudioChoice::NotChosen;
+    }
+    AudioChoice::Chosen
+}
+
+// The table mode by a number: zero columns by 1, the Rust's mode by every other number.
+pub fn mode_by(number: u8) -> TableMode
+    ensures { λ r. ⌜ r ≡ modeBy number ⌝ }
+{
+    if number == 1 {
+        return TableMode::ZeroColumns;
+    }
+    TableMode::Original
+}
+
+// What C asks for.
 pub fn reading_by(asked: ReadingBytes) -> Reading
     ensures { λ r. ⌜ r ≡ readingBy asked ⌝ }
 {
-    if asked.audio == 0 {
-        return Reading {
-            audio: AudioChoice::NotChosen,
-        };
-    }
     Reading {
-        audio: AudioChoice::Chosen,
+        audio: choice_by(asked.audio),
+        tables: mode_by(asked.tables),
     }
 }
 

@@ -1,8 +1,8 @@
--- Document 01, "Refusal numbers": the number of each cause, and what is "also returned".
+-- Document 01, "Refusal numbers": the number of each cause, and what is "also returned". 18 is document 02's, §5.
 use Prim.Native.Nat.{ℕ}
 use Rattle.refusal.specs.declared.Beside.{Beside}
 use Rattle.refusal.specs.declared.Cause.{Cause}
-use Rattle.refusal.specs.declared.Cause.the-variants.{RanOut, NoFilm, NoTable, NoVideo, NoAudio, NoHeaderEnd, NoMetadataEnd, UnknownType, TooSmall, TooMany, TooLong, ShortOutput, ShortList, Oversized}
+use Rattle.refusal.specs.declared.Cause.the-variants.{RanOut, NoFilm, NoTable, NoVideo, NoAudio, NoHeaderEnd, NoMetadataEnd, UnknownType, TooSmall, TooMany, TooLong, ShortOutput, ShortList, Oversized, UnknownStorage}
 
 abbrev pub numberOf : Cause → ℕ
 numberOf RanOut = 1
@@ -19,6 +19,7 @@ numberOf TooLong = 11
 numberOf (ShortOutput video audio) = 12
 numberOf (ShortList count) = 13
 numberOf Oversized = 14
+numberOf UnknownStorage = 18
 
 -- "Also returned": "the type, 7, 9 or 12 to 15" beside 8, "both sizes needed" beside 12, "chunk count" beside 13. Nothing beside the others
 abbrev pub nothingBeside : Beside
@@ -39,3 +40,4 @@ besideOf TooLong = nothingBeside
 besideOf (ShortOutput video audio) = record { «video_size» = video; «audio_size» = audio; count = 0; «unknown_type» = 0 }
 besideOf (ShortList count) = record { «video_size» = 0; «audio_size» = 0; count = count; «unknown_type» = 0 }
 besideOf Oversized = nothingBeside
+besideOf UnknownStorage = nothingBeside

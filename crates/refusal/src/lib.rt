@@ -1,8 +1,8 @@
-// Why a table or a container is refused, and where. Document 01, "Refusal numbers".
+// Why a table or a container is refused, and where. Document 01, "Refusal numbers"; document 02 has those from 15 on.
 ghost use mathlib.Core.Path.{_≡_};
 ghost use Rattle.refusal.specs.Numbers.{numberOf, besideOf};
 
-// Why. The cases stand in the order of the paper's numbers, 1 to 14.
+// Why. The cases stand in the order of the papers' numbers, 1 to 14 and 18.
 pub enum Cause {
     // Bytes run out.
     RanOut,
@@ -32,6 +32,8 @@ pub enum Cause {
     ShortList(usize),
     // Both stream sizes together exceed the container's length.
     Oversized,
+    // A column whose values stand nowhere that is known.
+    UnknownStorage,
 }
 
 // Why, and where.
@@ -59,6 +61,7 @@ pub fn number_of(cause: Cause) -> u8
         Cause::ShortOutput { video: _, audio: _ } => 12,
         Cause::ShortList(_) => 13,
         Cause::Oversized => 14,
+        Cause::UnknownStorage => 18,
     }
 }
 
@@ -110,5 +113,6 @@ pub fn beside_of(cause: Cause) -> Beside
             unknown_type: 0,
         },
         Cause::Oversized => nothing,
+        Cause::UnknownStorage => nothing,
     }
 }

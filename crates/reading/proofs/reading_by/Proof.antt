@@ -1,13 +1,16 @@
--- `reading::reading_by` meets its contract: the test on the number is the definition's. Assumes nothing.
-use borrow.Author.Tests.{eq-eqb, ne-eqb}
+-- `reading::reading_by` meets its contract, by those of both choices. Assumes nothing.
+use borrow.Author.Needs.{needs}
 use Rattle.reading.proofs.reading_by.Statement.{statement}
 use Rattle.reading.proofs.reading_by.Tie as tie
 
-returns : tie.Need-returns
-returns c = rw (eq-eqb _ _ (c .if1 .taken))
+choice-by-requires : tie.Need-choice-by-requires
+choice-by-requires c κs = search needs
 
-returns-2 : tie.Need-returns-2
-returns-2 c = rw (ne-eqb _ _ (c .if1 .left))
+mode-by-requires : tie.Need-mode-by-requires
+mode-by-requires c κs = search needs
+
+returns : tie.Need-returns
+returns c = rw (c .before .choice-by .ensures, c .mode-by .ensures)
 
 pub reading-by-spec : {M : Type 1} → statement M
-reading-by-spec = tie.close (tie.spec returns returns-2)
+reading-by-spec = tie.close (tie.spec choice-by-requires mode-by-requires returns)
