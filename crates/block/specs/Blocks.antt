@@ -83,15 +83,15 @@ markerBlock s letters missing marker unmarked p = andThen (markedAt s marker unm
 
 -- a block with a table
 unfoldable pub tableBlock : List ℕ → Reading → ℕ → Cause → ℕ → BlockAnswer
-tableBlock s how letters missing p = andThen (λ next. tabled p next (tableAt s (p + 0x20))) (headAt s letters missing p)
+tableBlock s how letters missing p = andThen (λ next. tabled p next (tableAt s (p + 0x20) (how .tables))) (headAt s letters missing p)
 
 -- a block with a table that gives a codec: "that cell in the first row"
 unfoldable pub codecBlock : List ℕ → Reading → ℕ → Cause → List ℕ → ℕ → CodecBlock
-codecBlock s how letters missing column p = thenCodec (λ next. coded p next (cellOf s (p + 0x20) column 0)) (headAt s letters missing p)
+codecBlock s how letters missing column p = thenCodec (λ next. coded p next (cellOf s (p + 0x20) (how .tables) column 0)) (headAt s letters missing p)
 
 -- "`CRID` at 0, table (it gives the name)": "the `filename` cell of the last row"
 unfoldable pub nameBlock : List ℕ → Reading → NameBlock
-nameBlock s how = thenName (λ next. named 0 next (lastCellOf s 0x20 filename)) (headAt s CRID cause.NoFilm 0)
+nameBlock s how = thenName (λ next. named 0 next (lastCellOf s 0x20 (how .tables) filename)) (headAt s CRID cause.NoFilm 0)
 
 -- "If `@SFA` is next"; fewer than four bytes are neither
 unfoldable pub aheadAt : List ℕ → ℕ → Ahead

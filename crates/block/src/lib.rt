@@ -89,9 +89,10 @@ fn marked_at(bytes: &[u8], marker: &[u8], unmarked: Cause, place: usize, next: u
 // The table of a block whose head was read, which is checked. Past such a head no sum overflows.
 fn table_at(bytes: &[u8], reading: Reading, place: usize, next: usize) -> BlockAnswer
     requires { ⌜ place + 8 ≤ length (now bytes) ⌝ }
-    ensures { λ r. ⌜ r ≡ tabled place next (tableAt (now (bytes .entry)) (place + 0x20)) ⌝ }
+    ensures { λ r. ⌜ r ≡ tabled place next (tableAt (now (bytes .entry)) (place + 0x20) (reading .tables)) ⌝ }
 {
-    match table::read_table(bytes, place + signature::INSIDE) {
+    let mode = reading.tables;
+    match table::read_table(bytes, place + signature::INSIDE, mode) {
         TableAnswer::Table(_) => BlockAnswer::Next(next),
         TableAnswer::NoTable(refusal) => {
             let cause = refusal.cause;
@@ -103,9 +104,10 @@ fn table_at(bytes: &[u8], reading: Reading, place: usize, next: usize) -> BlockA
 // The table of a block whose head was read: its column's cell in the first row is a codec.
 fn codec_at(bytes: &[u8], reading: Reading, column: &[u8], place: usize, next: usize) -> CodecBlock
     requires { ⌜ place + 8 ≤ length (now bytes) ⌝ }
-    ensures { λ r. ⌜ r ≡ coded place next (cellOf (now (bytes .entry)) (place + 0x20) (now (column .entry)) 0) ⌝ }
+    ensures { λ r. ⌜ r ≡ coded place next (cellOf (now (bytes .entry)) (place + 0x20) (reading .tables) (now (column .entry)) 0) ⌝ }
 {
-    match lookup::cell_of(bytes, place + signature::INSIDE, column, 0) {
+    let mode = reading.tables;
+    match lookup::cell_of(bytes, place + signature::INSIDE, mode, column, 0) {
         Lookup::Holds(cell) => CodecBlock::Coded {
             codec: codec::codec_of(cell),
             next,
@@ -119,9 +121,10 @@ fn codec_at(bytes: &[u8], reading: Reading, column: &[u8], place: usize, next: u
 
 // The table of the block at 0: its `filename` in the last row is the name.
 fn name_at(bytes: &[u8], reading: Reading, next: usize) -> NameBlock
-    ensures { λ r. ⌜ r ≡ named 0 next (lastCellOf (now (bytes .entry)) 0x20 filename) ⌝ }
+    ensures { λ r. ⌜ r ≡ named 0 next (lastCellOf (now (bytes .entry)) 0x20 (reading .tables) filename) ⌝ }
 {
-    match lookup::last_cell_of(bytes, signature::INSIDE, b"filename") {
+    let mode = reading.tables;
+    match lookup::last_cell_of(bytes, signature::INSIDE, mode, b"filename") {
         Lookup::Holds(cell) => NameBlock::Named {
             name: film_name::name_in(cell),
             next,

@@ -19,7 +19,7 @@ use Rattle.cell.specs.declared.Ending.{Ending}
 use Rattle.cell.specs.declared.Ending.the-variants.{At, Endless}
 use Rattle.cell.specs.Types.{Kind, u8, i8, u16, i16, u32, i32, u64, f32, text, blob, unknown, kindOf, widthOf}
 use Rattle.cell.specs.Parts.{endOf, textTo}
-use Rattle.cell.specs.Cells.{valueAt, cellAt}
+use Rattle.cell.specs.Cells.{valueAt, cellAt, zeroOf, zeroCell}
 use Rattle.cell.proofs.Scan.{ended}
 
 -- the part of a cell, if it has one, lies within the body
@@ -77,3 +77,24 @@ module _ (b : List ℕ) where
       go true u = tt
       go false true = value-kept (kindOf k) p l
       go false false = tt
+
+  zero-kept : (k : Kind) → Inside b (zeroOf k)
+  zero-kept u8 = tt
+  zero-kept i8 = tt
+  zero-kept u16 = tt
+  zero-kept i16 = tt
+  zero-kept u32 = tt
+  zero-kept i32 = tt
+  zero-kept u64 = tt
+  zero-kept f32 = tt
+  zero-kept text = omega arith
+  zero-kept blob = omega arith
+  zero-kept unknown = tt
+
+  pub zero-cell-kept : (k : ℕ) → Kept b (zeroCell k)
+  unfolding zeroCell
+  zero-cell-kept k = go (eqb (widthOf k) 0)
+    where
+      go : (t : Bool) → Kept b (cond t (Refused (UnknownType k)) (Got (zeroOf (kindOf k))))
+      go true = tt
+      go false = zero-kept (kindOf k)

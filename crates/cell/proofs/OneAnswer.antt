@@ -6,6 +6,7 @@ use Rattle.cell.proofs.width_of.Reads as width-of
 use Rattle.cell.proofs.end_of.Reads as end-of
 use Rattle.cell.proofs.data_at.Reads as data-at
 use Rattle.cell.proofs.read_cell.Reads as read-cell
+use Rattle.cell.proofs.zero_cell.Reads as zero-cell
 use Rattle.cell.proofs.case_of.Reads as case-of
 use Rattle.cell.proofs.value_of.Reads as value-of
 use Rattle.cell.proofs.length_of.Reads as length-of
@@ -22,6 +23,9 @@ data-at-once κs args r r′ exit exit′ = no-second-answer
 
 pub read-cell-once : (κs : _) (args : _) (r r′ : _) (exit exit′ : _) → read-cell.Learnt κs args r exit → read-cell.Learnt κs args r′ exit′ → r ≡ r′
 read-cell-once κs args r r′ exit exit′ = no-second-answer
+
+pub zero-cell-once : (κs : _) (args : _) (r r′ : _) (exit exit′ : _) → zero-cell.Learnt κs args r exit → zero-cell.Learnt κs args r′ exit′ → r ≡ r′
+zero-cell-once κs args r r′ exit exit′ = no-second-answer
 
 pub case-of-once : (κs : _) (args : _) (r r′ : _) (exit exit′ : _) → case-of.Learnt κs args r exit → case-of.Learnt κs args r′ exit′ → r ≡ r′
 case-of-once κs args r r′ exit exit′ = no-second-answer

@@ -1,4 +1,4 @@
--- Document 01, "@UTF tables": the value of a cell.
+-- Document 01, "@UTF tables": the value of a cell. Document 02, §5: a cell for which nothing is stored.
 use Prim.Native.Nat.{ℕ, _+_, _-_, _/_, _%_, _^_}
 use mathlib.Core.List.{List}
 use mathlib.Core.Bool.{cond}
@@ -13,7 +13,7 @@ use Rattle.layout.specs.declared.Layout.{Layout}
 use Rattle.cell.specs.Types.{Kind, u8, i8, u16, i16, u32, i32, u64, f32, text, blob, unknown, kindOf, widthOf}
 use Rattle.cell.specs.Parts.{textAt, dataAt}
 use Rattle.cell.specs.declared.Cell.{Cell}
-use Rattle.cell.specs.declared.Cell.the-variants.{Nothing, Unsigned, Signed, Float, NotANumber}
+use Rattle.cell.specs.declared.Cell.the-variants.{Nothing, Unsigned, Signed, Float, NotANumber, Text, Data}
 use Rattle.cell.specs.declared.CellAnswer.{CellAnswer}
 use Rattle.cell.specs.declared.CellAnswer.the-variants.{Got, Refused}
 
@@ -49,3 +49,21 @@ unfoldable pub cellAt : List ℕ → ℕ → ℕ → Layout → CellAnswer
 cellAt body k p l =
     cond (eqb (widthOf k) 0) (Refused (UnknownType k))
     (cond (leb (p + widthOf k) (length body)) (valueAt (kindOf k) body p l) (Refused RanOut))
+
+-- "numbers and floats are 0, strings and data empty": an empty part starts at 0
+abbrev pub zeroOf : Kind → Cell
+zeroOf u8 = Unsigned 0
+zeroOf i8 = Signed (pos 0)
+zeroOf u16 = Unsigned 0
+zeroOf i16 = Signed (pos 0)
+zeroOf u32 = Unsigned 0
+zeroOf i32 = Signed (pos 0)
+zeroOf u64 = Unsigned 0
+zeroOf f32 = floatCell 0
+zeroOf text = Text 0 0
+zeroOf blob = Data 0 0
+zeroOf unknown = Nothing
+
+-- "an unknown type in a zero column is 8"
+unfoldable pub zeroCell : ℕ → CellAnswer
+zeroCell k = cond (eqb (widthOf k) 0) (Refused (UnknownType k)) (Got (zeroOf (kindOf k)))

@@ -1,12 +1,12 @@
 // A cell of an @UTF table: its type's width, its value, its text or data in the table's body, and the cell as numbers.
-// Document 01, "@UTF tables". From the Rust: `read_column_data`, `read_cstring`.
+// Document 01, "@UTF tables", and document 02, §5. From the Rust: `read_column_data`, `read_cstring`.
 ghost use mathlib.Core.Path.{_≡_};
 ghost use Prim.Native.Nat.{_+_, _≤_, _<_, _^_};
 ghost use lib.ListN.{length};
 ghost use lib.Ieee.{binary32, toBits};
 ghost use Rattle.cell.specs.Types.{kindOf, widthOf};
 ghost use Rattle.cell.specs.Parts.{zeroFrom, endOf, textAt, dataAt};
-ghost use Rattle.cell.specs.Cells.{signedOf, bitsOf, floatCell, valueAt, cellAt};
+ghost use Rattle.cell.specs.Cells.{signedOf, bitsOf, floatCell, valueAt, cellAt, zeroOf, zeroCell};
 ghost use Rattle.cell.specs.CellNumbers.{caseOf, valueOf, lengthOf};
 ghost use Rattle.cell.specs.CellParts.{startOf, PartOf};
 use layout::BODY;
@@ -171,6 +171,35 @@ pub fn read_cell(body: &[u8], kind: u8, at: usize, layout: Layout) -> CellAnswer
         return CellAnswer::Refused(Cause::RanOut);
     }
     value_at(body, kind, at, layout)
+}
+
+// What a cell of a known type holds where nothing is stored for it.
+fn zero_of(kind: u8) -> Cell
+    ensures { λ r. ⌜ r ≡ zeroOf (kindOf kind) ⌝ }
+{
+    match kind {
+        0 => Cell::Unsigned(0),
+        1 => Cell::Signed(0),
+        2 => Cell::Unsigned(0),
+        3 => Cell::Signed(0),
+        4 => Cell::Unsigned(0),
+        5 => Cell::Signed(0),
+        6 => Cell::Unsigned(0),
+        8 => float_of(0),
+        10 => Cell::Text { start: 0, len: 0 },
+        11 => Cell::Data { start: 0, len: 0 },
+        _ => Cell::Nothing,
+    }
+}
+
+// The cell of a type in a column that stores nothing: 0, or an empty part at byte 0 of the slice.
+pub fn zero_cell(kind: u8) -> CellAnswer
+    ensures { λ r. ⌜ r ≡ zeroCell kind ⌝ }
+{
+    if width_of(kind) == 0 {
+        return CellAnswer::Refused(Cause::UnknownType(kind));
+    }
+    CellAnswer::Got(zero_of(kind))
 }
 
 // The number of a cell's case.

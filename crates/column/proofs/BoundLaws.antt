@@ -15,7 +15,7 @@ use Rattle.cell.specs.declared.Ending.the-variants.{At, Endless}
 use Rattle.cell.specs.Parts.{endOf}
 use Rattle.cell.proofs.BoundLaws.{Inside, Kept, cell-kept}
 use Rattle.column.specs.declared.Storage.{Storage}
-use Rattle.column.specs.declared.Storage.the-variants.{Constant, Stored}
+use Rattle.column.specs.declared.Storage.the-variants.{Constant, Stored, Zero, Unknown}
 use Rattle.column.specs.declared.ColumnAnswer.{ColumnAnswer}
 use Rattle.column.specs.declared.ColumnAnswer.the-variants.{Found, NoColumn}
 use Rattle.column.specs.Storages.{storageOf, inRecord, constantAt}
@@ -29,16 +29,18 @@ module _ (b : List ℕ) where
   constant-kept : (x : Storage) (k p : ℕ) (l : Layout) → Kept b (constantAt b x k p l)
   constant-kept Constant k p l = cell-kept b k p l
   constant-kept Stored k p l = tt
+  constant-kept Zero k p l = tt
+  constant-kept Unknown k p l = tt
 
-  column-of-kept : (name tag next : ℕ) (x : CellAnswer) → Kept b x → KeptIn b (columnOf name tag next x)
-  column-of-kept name tag next (Got c) h = h
-  column-of-kept name tag next (Refused cause) h = tt
+  column-of-kept : (name : ℕ) (s : Storage) (k next : ℕ) (x : CellAnswer) → Kept b x → KeptIn b (columnOf name s k next x)
+  column-of-kept name s k next (Got c) h = h
+  column-of-kept name s k next (Refused cause) h = tt
 
   named-kept : (p name : ℕ) (l : Layout) (x : Ending) → KeptIn b (named b p name l x)
   unfolding named columnFrom
   named-kept p name l (At z) =
-      column-of-kept name (at b p) (p + inRecord (at b p)) (constantAt b (storageOf (at b p)) (at b p % 16) (p + 5) l)
-      (constant-kept (storageOf (at b p)) (at b p % 16) (p + 5) l)
+      let s = storageOf (l .mode) (at b p) in
+      column-of-kept name s (at b p % 16) (p + inRecord (l .mode) (at b p)) (constantAt b s (at b p % 16) (p + 5) l) (constant-kept s (at b p % 16) (p + 5) l)
   named-kept p name l Endless = tt
 
   pub column-kept : (p : ℕ) (l : Layout) → KeptIn b (columnAt b p l)

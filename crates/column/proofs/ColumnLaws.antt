@@ -1,5 +1,5 @@
 -- The cases of a column, one for each return of the code: x is its type byte, which says s and k, and n its name offset, as they were read. Assumes nothing.
-use mathlib.Core.Path.{_≡_, sym, ap}
+use mathlib.Core.Path.{_≡_, refl}
 use mathlib.Core.List.{List}
 use Prim.Native.Nat.{ℕ, _+_, _%_, _≤_, _<_}
 use lib.ListN.{length}
@@ -10,6 +10,7 @@ use Rattle.refusal.specs.declared.Cause.{Cause}
 use Rattle.refusal.specs.declared.Cause.the-variants.{RanOut}
 use Rattle.layout.specs.declared.Layout.{Layout}
 use Rattle.cell.specs.declared.Cell.{Cell}
+use Rattle.cell.specs.declared.CellAnswer.{CellAnswer}
 use Rattle.cell.specs.declared.CellAnswer.the-variants.{Got, Refused}
 use Rattle.cell.specs.declared.Ending.the-variants.{At, Endless}
 use Rattle.cell.specs.Parts.{endOf}
@@ -18,15 +19,17 @@ use Rattle.column.specs.declared.ColumnAnswer.the-variants.{Found, NoCol
 use Rattle.column.specs.Storages.{storageOf, inRecord, constantAt}
 use Rattle.column.specs.Columns.{columnOf, columnFrom, named, columnAt}
 
-module _ (b : List ℕ) (p name : ℕ) (l : Layout) (x : ℕ) (s : Storage) (k : ℕ) (read : x ≡ at b p) (is : s ≡ storageOf x) (low : k ≡ x % 16) where
-  pub held : (w : ℕ) (c : Cell) → w ≡ inRecord x → constantAt b s k (p + 5) l ≡ Got c
-      → Found (record { name = name; storage = s; kind = k; constant = c; next = p + w }) ≡ columnFrom b p name l
+module _ (b : List ℕ) (p name : ℕ) (l : Layout) (x : ℕ) (s : Storage) (k : ℕ) (read : x ≡ at b p) (is : s ≡ storageOf (l .mode) x) (low : k ≡ x % 16) where
+  by : (w : ℕ) (a : CellAnswer) → w ≡ inRecord (l .mode) x → constantAt b s k (p + 5) l ≡ a → columnOf name s k (p + w) a ≡ columnFrom b p name l
   unfolding columnFrom
-  held w c e h = rw (← read, e, is, low) (sym (ap (columnOf name x (p + inRecord x)) (rw (is, low) at h)))
+  by w a e h = rw (← read, ← h, e, is, low)
+
+  pub held : (w : ℕ) (c : Cell) → w ≡ inRecord (l .mode) x → constantAt b s k (p + 5) l ≡ Got c
+      → Found (record { name = name; storage = s; kind = k; constant = c; next = p + w }) ≡ columnFrom b p name l
+  held w c e h = by w (Got c) e h
 
   pub unheld : (cause : Cause) → constantAt b s k (p + 5) l ≡ Refused cause → NoColumn cause ≡ columnFrom b p name l
-  unfolding columnFrom
-  unheld cause h = rw (← read) (sym (ap (columnOf name x (p + inRecord x)) (rw (is, low) at h)))
+  unheld cause h = by (inRecord (l .mode) x) (Refused cause) refl h
 
 module _ (b : List ℕ) (p : ℕ) (l : Layout) where
   pub cut : length b < p + 5 → NoColumn RanOut ≡ columnAt b p l

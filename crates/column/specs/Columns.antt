@@ -13,18 +13,23 @@ use Rattle.cell.specs.declared.CellAnswer.the-variants.{Got, Refused}
 use Rattle.cell.specs.declared.Ending.{Ending}
 use Rattle.cell.specs.declared.Ending.the-variants.{At, Endless}
 use Rattle.cell.specs.Parts.{endOf}
+use Rattle.column.specs.declared.Storage.{Storage}
 use Rattle.column.specs.Storages.{storageOf, inRecord, constantAt}
 use Rattle.column.specs.declared.ColumnAnswer.{ColumnAnswer}
 use Rattle.column.specs.declared.ColumnAnswer.the-variants.{Found, NoColumn}
 
 -- "A column record holds its constant as a cell"
-abbrev pub columnOf : ℕ → ℕ → ℕ → CellAnswer → ColumnAnswer
-columnOf name tag next (Got c) = Found (record { name = name; storage = storageOf tag; kind = tag % 16; constant = c; next = next })
-columnOf name tag next (Refused cause) = NoColumn cause
+abbrev pub columnOf : ℕ → Storage → ℕ → ℕ → CellAnswer → ColumnAnswer
+columnOf name storage kind next (Got c) = Found (record { name = name; storage = storage; kind = kind; constant = c; next = next })
+columnOf name storage kind next (Refused cause) = NoColumn cause
 
--- the column of a name whose record stands at body byte p
+-- the column of a name, type byte x, whose record stands at body byte p
+abbrev pub columnBy : List ℕ → ℕ → ℕ → ℕ → Layout → ColumnAnswer
+columnBy b p x name l =
+    columnOf name (storageOf (l .mode) x) (x % 16) (p + inRecord (l .mode) x) (constantAt b (storageOf (l .mode) x) (x % 16) (p + 5) l)
+
 unfoldable pub columnFrom : List ℕ → ℕ → ℕ → Layout → ColumnAnswer
-columnFrom b p name l = columnOf name (at b p) (p + inRecord (at b p)) (constantAt b (storageOf (at b p)) (at b p % 16) (p + 5) l)
+columnFrom b p name l = columnBy b p (at b p) name l
 
 unfoldable pub named : List ℕ → ℕ → ℕ → Layout → Ending → ColumnAnswer
 named b p name l (At z) = columnFrom b p name l

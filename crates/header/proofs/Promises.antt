@@ -88,13 +88,13 @@ same-end (Text start len) = refl
 same-end (Data start len) = refl
 
 module _ (s : List ℕ) (how : Reading) where
-  by-lookup : (next : ℕ) (x : Lookup) → lastCellOf s 0x20 filename ≡ x → name-end (afterName (step2 s how) (named 0 next x)) ≤ length s
+  by-lookup : (next : ℕ) (x : Lookup) → lastCellOf s 0x20 (how .tables) filename ≡ x → name-end (afterName (step2 s how) (named 0 next x)) ≤ length s
   by-lookup next (Holds cell) e =
-      omega (arith, step2-keeps s how (nameIn cell) next, same-end cell, PartsLieWithin s 0x20 filename (lastRow (tableAt s 0x20)) cell e)
+      omega (arith, step2-keeps s how (nameIn cell) next, same-end cell, PartsLieWithin s 0x20 (how .tables) filename (lastRow (tableAt s 0x20 (how .tables))) cell e)
   by-lookup next (NoTable refusal) e = omega arith
 
-  by-head : (x : BlockAnswer) → name-end (afterName (step2 s how) (thenName (λ next. named 0 next (lastCellOf s 0x20 filename)) x)) ≤ length s
-  by-head (Next next) = by-lookup next (lastCellOf s 0x20 filename) refl
+  by-head : (x : BlockAnswer) → name-end (afterName (step2 s how) (thenName (λ next. named 0 next (lastCellOf s 0x20 (how .tables) filename)) x)) ≤ length s
+  by-head (Next next) = by-lookup next (lastCellOf s 0x20 (how .tables) filename) refl
   by-head (NoBlock refusal) = omega arith
 
   by-length : (t : Bool) → name-end (cond t (refused 0 cause.TooLong) (step1 s how)) ≤ length s

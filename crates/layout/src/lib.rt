@@ -3,9 +3,10 @@
 ghost use mathlib.Core.Path.{_≡_};
 ghost use Prim.Native.Nat.{_<_, _^_};
 ghost use Rattle.layout.specs.Layouts.{startOf, countedIn, layoutIn};
+use reading::TableMode;
 use refusal::Cause;
 
-// What a table's header says, as far as anything depends on it.
+// What a table's header says, as far as anything depends on it, and how its columns are read.
 pub struct Layout {
     // The bytes of the body.
     pub size: usize,
@@ -17,6 +18,7 @@ pub struct Layout {
     pub strings: u32,
     // The data offset.
     pub blobs: u32,
+    pub mode: TableMode,
 }
 
 // A layout, or why there is none.
@@ -68,9 +70,9 @@ fn start_of(size: usize, offset: usize) -> u32
 }
 
 // The layout of a table whose body is there.
-fn counted(table: &[u8], size: usize) -> LayoutAnswer
+fn counted(table: &[u8], mode: TableMode, size: usize) -> LayoutAnswer
     requires { ⌜ size < 2 ^ 32 ⌝ }
-    ensures { λ r. ⌜ r ≡ countedIn (now (table .entry)) size ⌝ }
+    ensures { λ r. ⌜ r ≡ countedIn (now (table .entry)) mode size ⌝ }
 {
     let columns = word::read16(table, COLUMNS);
     if MOST_COLUMNS < columns {
@@ -90,12 +92,13 @@ fn counted(table: &[u8], size: usize) -> LayoutAnswer
         start,
         strings,
         blobs,
+        mode,
     })
 }
 
 // The layout of the table that a slice begins with, or why it is refused before its columns are read.
-pub fn read_layout(table: &[u8]) -> LayoutAnswer
-    ensures { λ r. ⌜ r ≡ layoutIn (now (table .entry)) ⌝ }
+pub fn read_layout(table: &[u8], mode: TableMode) -> LayoutAnswer
+    ensures { λ r. ⌜ r ≡ layoutIn (now (table .entry)) mode ⌝ }
 {
     if table.len() < LETTERS {
         return LayoutAnswer::NoLayout(Cause::RanOut);
@@ -114,5 +117,5 @@ pub fn read_layout(table: &[u8]) -> LayoutAnswer
     if table.len() < HEADER + body {
         return LayoutAnswer::NoLayout(Cause::RanOut);
     }
-    counted(table, body)
+    counted(table, mode, body)
 }

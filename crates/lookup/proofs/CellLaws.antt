@@ -16,9 +16,9 @@ use Rattle.cell.specs.declared.CellAnswer.{CellAnswer}
 use Rattle.cell.specs.declared.CellAnswer.the-variants.{Got, Refused}
 use Rattle.cell.specs.Types.{kindOf, widthOf}
 use Rattle.cell.specs.Cells.{valueAt, cellAt}
-use Rattle.cell.proofs.BoundLaws.{Inside, Kept, cell-kept}
+use Rattle.cell.proofs.BoundLaws.{Inside, Kept, cell-kept, zero-cell-kept}
 use Rattle.column.specs.declared.Storage.{Storage}
-use Rattle.column.specs.declared.Storage.the-variants.{Constant, Stored}
+use Rattle.column.specs.declared.Storage.the-variants.{Constant, Stored, Zero, Unknown}
 use Rattle.column.specs.declared.ColumnAnswer.{ColumnAnswer}
 use Rattle.column.specs.declared.ColumnAnswer.the-variants.{Found, NoColumn}
 use Rattle.column.specs.declared.Column.{Column}
@@ -28,7 +28,7 @@ use Rattle.column.proofs.BoundLaws.{KeptIn, column-kept}
 use Rattle.lookup.specs.declared.Mark.{Mark}
 use Rattle.lookup.specs.declared.Mark.the-variants.{Nowhere, Marked}
 use Rattle.lookup.specs.Search.{searchFrom}
-use Rattle.lookup.specs.Lookups.{endOfPart, endOfAnswer, shifted, moved, columnCell, markedCell, bodyCell}
+use Rattle.lookup.specs.Lookups.{endOfPart, endOfAnswer, shifted, moved, shiftIn, columnCell, markedCell, bodyCell}
 
 module _ (b : List ℕ) (k : ℕ) (l : Layout) where
   refused-past : (p : ℕ) → length b ≤ p → (t : Bool) → eqb (widthOf k) 0 ≡ t
@@ -80,10 +80,18 @@ moved-end : (by : ℕ) (x : CellAnswer) → endOfAnswer (moved by x) ≤ by + en
 moved-end by (Got c) = shifted-end by c
 moved-end by (Refused why) = omega arith
 
+pub shift-le : (s : Storage) (by : ℕ) → shiftIn s by ≤ by
+shift-le Constant by = omega arith
+shift-le Stored by = omega arith
+shift-le Zero by = omega arith
+shift-le Unknown by = omega arith
+
 module _ (b : List ℕ) where
   in-kept : (x : Storage) (c : Cell) (k p : ℕ) (l : Layout) → Inside b c → Kept b (cellIn b x c k p l)
   in-kept Constant c k p l h = h
   in-kept Stored c k p l h = cell-kept b k p l
+  in-kept Zero c k p l h = zero-cell-kept b k
+  in-kept Unknown c k p l h = tt
 
   -- the cell of a column that was read ends within the body
   pub in-end : (entry p : ℕ) (l : Layout) (c : Column) → columnAt b entry l ≡ Found c → endOfAnswer (cellIn b (c .storage) (c .constant) (c .kind) p l) ≤ length b
@@ -92,7 +100,8 @@ module _ (b : List ℕ) where
       kept-end b (cellIn b (c .storage) (c .constant) (c .kind) p l) (in-kept (c .storage) (c .constant) (c .kind) p l h)
 
   column-cell-end : (by entry p : ℕ) (l : Layout) (x : ColumnAnswer) → columnAt b entry l ≡ x → endOfAnswer (columnCell b by p l x) ≤ by + length b
-  column-cell-end by entry p l (Found c) e = omega (arith, moved-end by (cellIn b (c .storage) (c .constant) (c .kind) p l), in-end entry p l c e)
+  column-cell-end by entry p l (Found c) e =
+      omega (arith, moved-end (shiftIn (c .storage) by) (cellIn b (c .storage) (c .constant) (c .kind) p l), shift-le (c .storage) by, in-end entry p l c e)
   column-cell-end by entry p l (NoColumn cause) e = omega arith
 
   marked-end : (by p : ℕ) (l : Layout) (m : Mark) → endOfAnswer (markedCell b by p l m) ≤ by + length b

@@ -8,6 +8,7 @@ use lib.ListN.{length, take, drop, length-take, length-drop}
 use lib.Seq.{drop-drop}
 use lib.Dec.{ltb}
 use borrow.Author.Tests.{lt-ltb, le-ltb}
+use Rattle.reading.specs.declared.TableMode.{TableMode}
 use Rattle.refusal.specs.declared.Refusal.{Refusal}
 use Rattle.layout.specs.declared.Layout.{Layout}
 use Rattle.layout.specs.Layouts.{bodyOf}
@@ -55,14 +56,15 @@ module _ (bytes : List ℕ) (place : ℕ) (name : List ℕ) where
     unfolding cellFrom
     from-end h = by-row h (ltb row (l .rows))
 
-  pub no-table : (row : ℕ) (x : Refusal) → tableAt bytes place ≡ NoTable x → lookup.NoTable x ≡ cellOf bytes place name row
-  no-table row x e = rw e
+  module _ (m : TableMode) where
+    pub no-table : (row : ℕ) (x : Refusal) → tableAt bytes place m ≡ NoTable x → lookup.NoTable x ≡ cellOf bytes place m name row
+    no-table row x e = rw e
 
-  pub in-table : (row : ℕ) (l : Layout) → tableAt bytes place ≡ Table l → cellFrom bytes place name row l ≡ cellOf bytes place name row
-  in-table row l e = rw e
+    pub in-table : (row : ℕ) (l : Layout) → tableAt bytes place m ≡ Table l → cellFrom bytes place name row l ≡ cellOf bytes place m name row
+    in-table row l e = rw e
 
-  pub no-last : (x : Refusal) → tableAt bytes place ≡ NoTable x → lookup.NoTable x ≡ lastCellOf bytes place name
-  no-last x e = rw e
+    pub no-last : (x : Refusal) → tableAt bytes place m ≡ NoTable x → lookup.NoTable x ≡ lastCellOf bytes place m name
+    no-last x e = rw e
 
-  pub last-in-table : (l : Layout) → tableAt bytes place ≡ Table l → cellFrom bytes place name (l .rows - 1) l ≡ lastCellOf bytes place name
-  last-in-table l e = rw e
+    pub last-in-table : (l : Layout) → tableAt bytes place m ≡ Table l → cellFrom bytes place name (l .rows - 1) l ≡ lastCellOf bytes place m name
+    last-in-table l e = rw e

@@ -5,6 +5,7 @@ use mathlib.Core.List.{List}
 use mathlib.Core.Bool.{cond}
 use lib.ListN.{drop}
 use lib.Dec.{ltb, eqb}
+use Rattle.reading.specs.declared.TableMode.{TableMode}
 use Rattle.layout.specs.declared.Layout.{Layout}
 use Rattle.layout.specs.Layouts.{bodyOf}
 use Rattle.cell.specs.declared.Cell.{Cell}
@@ -13,6 +14,8 @@ use Rattle.cell.specs.declared.CellAnswer.{CellAnswer}
 use Rattle.cell.specs.declared.CellAnswer.the-variants.{Got, Refused}
 use Rattle.column.specs.declared.ColumnAnswer.{ColumnAnswer}
 use Rattle.column.specs.declared.ColumnAnswer.the-variants.{Found, NoColumn}
+use Rattle.column.specs.declared.Storage.{Storage}
+use Rattle.column.specs.declared.Storage.the-variants.{Constant, Stored, Zero, Unknown}
 use Rattle.column.specs.Storages.{cellIn}
 use Rattle.column.specs.Columns.{columnAt}
 use Rattle.table.specs.declared.TableAnswer.{TableAnswer}
@@ -53,9 +56,16 @@ abbrev pub moved : ℕ → CellAnswer → CellAnswer
 moved by (Got c) = Got (shifted by c)
 moved by (Refused why) = Refused why
 
+-- document 02, §5: a zero cell is no part of the body; "empty" starts at 0
+abbrev pub shiftIn : Storage → ℕ → ℕ
+shiftIn Constant by = by
+shiftIn Stored by = by
+shiftIn Zero by = 0
+shiftIn Unknown by = by
+
 -- the cell of a column that in this row has its bytes at body byte p
 abbrev pub columnCell : List ℕ → ℕ → ℕ → Layout → ColumnAnswer → CellAnswer
-columnCell b by p l (Found c) = moved by (cellIn b (c .storage) (c .constant) (c .kind) p l)
+columnCell b by p l (Found c) = moved (shiftIn (c .storage) by) (cellIn b (c .storage) (c .constant) (c .kind) p l)
 columnCell b by p l (NoColumn cause) = Got Nothing
 
 -- the cell of a mark in the row that starts at body byte p
@@ -83,14 +93,14 @@ abbrev pub afterTable : (Layout → Lookup) → TableAnswer → Lookup
 afterTable k (Table l) = k l
 afterTable k (NoTable refusal) = lookup.NoTable refusal
 
--- the cell of the last column of a name, in a row of the table at a place of a slice
-abbrev pub cellOf : List ℕ → ℕ → List ℕ → ℕ → Lookup
-cellOf bytes place name row = afterTable (cellFrom bytes place name row) (tableAt bytes place)
+-- the cell of the last column of a name, in a row of the table at a place of a slice, read in mode m
+abbrev pub cellOf : List ℕ → ℕ → TableMode → List ℕ → ℕ → Lookup
+cellOf bytes place m name row = afterTable (cellFrom bytes place name row) (tableAt bytes place m)
 
 -- the last row; without rows there is no cell in row 0
 abbrev pub lastRow : TableAnswer → ℕ
 lastRow (Table l) = l .rows - 1
 lastRow (NoTable refusal) = 0
 
-abbrev pub lastCellOf : List ℕ → ℕ → List ℕ → Lookup
-lastCellOf bytes place name = cellOf bytes place name (lastRow (tableAt bytes place))
+abbrev pub lastCellOf : List ℕ → ℕ → TableMode → List ℕ → Lookup
+lastCellOf bytes place m name = cellOf bytes place m name (lastRow (tableAt bytes place m))

@@ -20,4 +20,4 @@ markIf named p q before = cond named (Marked p q) before
 unfoldable pub searchFrom : List ℕ → Layout → List ℕ → ℕ → ℕ → ℕ → Mark → Search
 searchFrom b l name zero p q best = record { mark = best; width = q }
 searchFrom b l name (suc n) p q best =
-    searchFrom b l name n (p + inRecord (at b p)) (q + inRow (at b p)) (markIf (spells b (l .strings + be32 b (p + 1) - 24) name) p q best)
+    searchFrom b l name n (p + inRecord (l .mode) (at b p)) (q + inRow (l .mode) (at b p)) (markIf (spells b (l .strings + be32 b (p + 1) - 24) name) p q best)

@@ -1,5 +1,5 @@
 // A cell of an @UTF table by its column's name and its row.
-// Document 01, "@UTF tables". From the Rust: the rows of `get_utf_table`, which it keeps as maps by name.
+// Document 01, "@UTF tables", and document 02, §5. From the Rust: the rows of `get_utf_table`, which it keeps as maps by name.
 ghost use mathlib.Core.Path.{_≡_};
 ghost use Prim.Native.Nat.{_+_, _-_, _*_, _≤_, _<_, _^_};
 ghost use lib.ListN.{length};
@@ -9,13 +9,15 @@ ghost use Rattle.column.specs.Storages.{cellIn};
 ghost use Rattle.column.specs.Columns.{columnAt};
 ghost use Rattle.lookup.specs.Names.{spells};
 ghost use Rattle.lookup.specs.Search.{markIf, searchFrom};
-ghost use Rattle.lookup.specs.Lookups.{columnCell, markedCell, bodyCell, endOfPart, endOfAnswer, shifted, moved, cellFrom, cellOf, lastCellOf};
+ghost use Rattle.lookup.specs.Lookups.{columnCell, markedCell, bodyCell, endOfPart, endOfAnswer, shifted, moved, shiftIn, cellFrom, cellOf, lastCellOf};
 use cell::Cell;
 use cell::CellAnswer;
 use column::Column;
 use column::ColumnAnswer;
 use column::Storage;
 use layout::Layout;
+use reading::TableMode;
+use refusal::Cause;
 use refusal::Refusal;
 use table::TableAnswer;
 
@@ -92,8 +94,9 @@ fn last_named(body: &[u8], layout: Layout, name: &[u8]) -> Search
         let named = has_name(body, entry, layout, name);
         let better = mark_if(named, entry, offset, best);
         best = better;
-        entry = entry + column::in_record(tag);
-        offset = offset + column::in_row(tag);
+        let mode = layout.mode;
+        entry = entry + column::in_record(tag, mode);
+        offset = offset + column::in_row(tag, mode);
         left -= 1;
     }
     Search {
@@ -112,7 +115,7 @@ fn cell_past(body: &[u8], kind: u8, at: usize, offset: usize, layout: Layout) ->
     cell::read_cell(body, kind, at + offset, layout)
 }
 
-// The cell of a column in the row that starts at a body byte: its constant, or what stands there.
+// The cell of a column in the row that starts at a body byte: its constant, what stands there, or zero.
 fn cell_in(body: &[u8], column: Column, at: usize, offset: usize, layout: Layout) -> CellAnswer
     ensures { λ r. ⌜ r ≡ cellIn (now (body .entry)) (column .storage) (column .constant) (column .kind) (at + offset) layout ⌝ }
 {
@@ -121,6 +124,20 @@ fn cell_in(body: &[u8], column: Column, at: usize, offset: usize, layout: Layout
     match storage {
         Storage::Constant => CellAnswer::Got(constant),
         Storage::Stored => cell_past(body, column.kind, at, offset, layout),
+        Storage::Zero => cell::zero_cell(column.kind),
+        Storage::Unknown => CellAnswer::Refused(Cause::UnknownStorage),
+    }
+}
+
+// By how much a cell of the body is moved to be one of the slice. A zero cell is a part of neither, and starts at 0.
+fn shift_in(storage: Storage, by: usize) -> usize
+    ensures { λ r. ⌜ r ≡ shiftIn storage by ⌝ }
+{
+    match storage {
+        Storage::Constant => by,
+        Storage::Stored => by,
+        Storage::Zero => 0,
+        Storage::Unknown => by,
     }
 }
 
@@ -173,7 +190,13 @@ fn column_cell(
     ensures { λ r. ⌜ r ≡ columnCell (now (body .entry)) by (at + offset) layout (columnAt (now (body .entry)) entry layout) ⌝ }
 {
     match column::read_column(body, entry, layout) {
-        ColumnAnswer::Found(column) => moved_cell(cell_in(body, column, at, offset, layout), by),
+        ColumnAnswer::Found(column) => {
+            let storage = column.storage;
+            moved_cell(
+                cell_in(body, column, at, offset, layout),
+                shift_in(storage, by),
+            )
+        }
         ColumnAnswer::NoColumn(_) => CellAnswer::Got(Cell::Nothing),
     }
 }
@@ -217,11 +240,11 @@ fn row_cell(bytes: &[u8], place: usize, layout: Layout, name: &[u8], row: usize)
     }
 }
 
-// The cell of the last column of a name, in a row of the table at a place of a slice.
-pub fn cell_of(bytes: &[u8], place: usize, name: &[u8], row: usize) -> Lookup
-    ensures { λ r. ⌜ r ≡ cellOf (now (bytes .entry)) place (now (name .entry)) row ⌝ }
+// The cell of the last column of a name, in a row of the table at a place of a slice, read in a mode.
+pub fn cell_of(bytes: &[u8], place: usize, mode: TableMode, name: &[u8], row: usize) -> Lookup
+    ensures { λ r. ⌜ r ≡ cellOf (now (bytes .entry)) place mode (now (name .entry)) row ⌝ }
 {
-    match table::read_table(bytes, place) {
+    match table::read_table(bytes, place, mode) {
         TableAnswer::Table(layout) => row_cell(bytes, place, layout, name, row),
         TableAnswer::NoTable(refusal) => Lookup::NoTable(refusal),
     }
@@ -238,10 +261,10 @@ fn last_row(rows: usize) -> usize
 }
 
 // The cell of the last column of a name, in the last row of the table at a place of a slice.
-pub fn last_cell_of(bytes: &[u8], place: usize, name: &[u8]) -> Lookup
-    ensures { λ r. ⌜ r ≡ lastCellOf (now (bytes .entry)) place (now (name .entry)) ⌝ }
+pub fn last_cell_of(bytes: &[u8], place: usize, mode: TableMode, name: &[u8]) -> Lookup
+    ensures { λ r. ⌜ r ≡ lastCellOf (now (bytes .entry)) place mode (now (name .entry)) ⌝ }
 {
-    match table::read_table(bytes, place) {
+    match table::read_table(bytes, place, mode) {
         TableAnswer::Table(layout) => {
             let row = last_row(layout.rows);
             row_cell(bytes, place, layout, name, row)

@@ -11,7 +11,7 @@ use borrow.Author.Tests.{eq-eqb, ne-eqb, le-leb, lt-leb, ltb-true, ltb-false}
 use Rattle.laws.specs.Lists.{at}
 use Rattle.word.specs.Numbers.{be32}
 use Rattle.refusal.specs.declared.Cause.{Cause}
-use Rattle.refusal.specs.declared.Cause.the-variants.{RanOut, UnknownType}
+use Rattle.refusal.specs.declared.Cause.the-variants.{RanOut, UnknownType, UnknownStorage}
 use Rattle.layout.specs.declared.Layout.{Layout}
 use Rattle.cell.specs.declared.Cell.the-variants.{Nothing}
 use Rattle.cell.specs.declared.CellAnswer.{CellAnswer}
@@ -20,13 +20,14 @@ use Rattle.cell.specs.declared.Ending.{Ending}
 use Rattle.cell.specs.declared.Ending.the-variants.{At, Endless}
 use Rattle.cell.specs.Types.{Kind, unknown, kinds, kindOf, widthOf}
 use Rattle.cell.specs.Parts.{endOf, textTo, textAt}
-use Rattle.cell.specs.Cells.{valueAt, cellAt}
+use Rattle.cell.specs.Cells.{valueAt, cellAt, zeroCell}
 use Rattle.cell.proofs.Entries.{every, entry}
 use Rattle.column.specs.declared.ColumnAnswer.{ColumnAnswer}
 use Rattle.column.specs.declared.ColumnAnswer.the-variants.{Found, NoColumn}
-use Rattle.column.specs.declared.Storage.the-variants.{Constant, Stored}
+use Rattle.column.specs.declared.Storage.{Storage}
+use Rattle.column.specs.declared.Storage.the-variants.{Constant, Stored, Zero, Unknown}
 use Rattle.column.specs.Storages.{storageOf, inRecord, inRow, constantAt, cellIn}
-use Rattle.column.specs.Columns.{columnOf, columnFrom, columnAt}
+use Rattle.column.specs.Columns.{columnOf, columnBy, columnFrom, columnAt}
 use Rattle.column.proofs.ColumnLaws.{cut, unnamed, with-name}
 use Rattle.table.specs.declared.Walk.{Walk}
 use Rattle.table.specs.declared.Walk.the-variants.{Done, Stopped}
@@ -92,23 +93,40 @@ module _ (b : List ℕ) (k p : ℕ) (l : Layout) (w : Walk) where
 
 -- ---- what follows a column's name, and its cell in a row, by its storage: k is the type in the type byte x
 
-module _ (b : List ℕ) (x k p : ℕ) (l : Layout) (low : k ≡ x % 16) where
-  pub constant-follows : storageOf x ≡ Constant
-      → afterCell (Done (p + 5 + widthOf k)) (cellAt b k (p + 5) l) ≡ afterCell (Done (p + inRecord x)) (constantAt b (storageOf x) (x % 16) (p + 5) l)
-  constant-follows e =
-      let sum : p + 5 + widthOf (x % 16) ≡ p + (5 + widthOf (x % 16)) = omega arith in
-      rw (low, e, sum)
-
-  pub stored-in-row : storageOf x ≡ Stored
-      → afterCell (Done (p + widthOf k)) (cellAt b k p l) ≡ afterCell (Done (p + inRow x)) (cellIn b (storageOf x) Nothing (x % 16) p l)
-  stored-in-row e = rw (low, e)
-
 module _ (b : List ℕ) (x p : ℕ) (l : Layout) where
-  pub nothing-follows : storageOf x ≡ Stored → Done (p + 5) ≡ afterCell (Done (p + inRecord x)) (constantAt b (storageOf x) (x % 16) (p + 5) l)
-  nothing-follows e = rw e
+  -- the check of what follows the name, and that of the cell in a row
+  abbrev Follows : Walk → Type 0
+  Follows w = w ≡ afterCell (Done (p + inRecord (l .mode) x)) (constantAt b (storageOf (l .mode) x) (x % 16) (p + 5) l)
 
-  pub nothing-in-row : storageOf x ≡ Constant → Done p ≡ afterCell (Done (p + inRow x)) (cellIn b (storageOf x) Nothing (x % 16) p l)
-  nothing-in-row e = rw (e, add-zero p)
+  abbrev InRow : Walk → Type 0
+  InRow w = w ≡ afterCell (Done (p + inRow (l .mode) x)) (cellIn b (storageOf (l .mode) x) Nothing (x % 16) p l)
+
+  module _ (k : ℕ) (low : k ≡ x % 16) where
+    pub constant-follows : storageOf (l .mode) x ≡ Constant → Follows (afterCell (Done (p + 5 + widthOf k)) (cellAt b k (p + 5) l))
+    constant-follows e =
+        let sum : p + 5 + widthOf (x % 16) ≡ p + (5 + widthOf (x % 16)) = omega arith in
+        rw (low, e, sum)
+
+    pub stored-in-row : storageOf (l .mode) x ≡ Stored → InRow (afterCell (Done (p + widthOf k)) (cellAt b k p l))
+    stored-in-row e = rw (low, e)
+
+    pub zero-in-row : storageOf (l .mode) x ≡ Zero → InRow (afterCell (Done p) (zeroCell k))
+    zero-in-row e = rw (low, e, add-zero p)
+
+  pub stored-follows : storageOf (l .mode) x ≡ Stored → Follows (Done (p + 5))
+  stored-follows e = rw e
+
+  pub zero-follows : storageOf (l .mode) x ≡ Zero → Follows (Done (p + 5))
+  zero-follows e = rw e
+
+  pub unknown-follows : storageOf (l .mode) x ≡ Unknown → Follows (Stopped UnknownStorage)
+  unknown-follows e = rw e
+
+  pub constant-in-row : storageOf (l .mode) x ≡ Constant → InRow (Done p)
+  constant-in-row e = rw (e, add-zero p)
+
+  pub unknown-in-row : storageOf (l .mode) x ≡ Unknown → InRow (Stopped UnknownStorage)
+  unknown-in-row e = rw e
 
 -- ---- what a check's answer says of the cell and of the column
 
@@ -134,9 +152,9 @@ column-stopped (NoColumn why) cause e k = e
 abbrev done : ℕ → Walk
 done m = Done m
 
-held-to : (name tag next : ℕ) (x : CellAnswer) → afterCell (Done next) x ≡ afterColumn done (columnOf name tag next x)
-held-to name tag next (Got c) = refl
-held-to name tag next (Refused why) = refl
+held-to : (name : ℕ) (s : Storage) (k next : ℕ) (x : CellAnswer) → afterCell (Done next) x ≡ afterColumn done (columnOf name s k next x)
+held-to name s k next (Got c) = refl
+held-to name s k next (Refused why) = refl
 
 module _ (b : List ℕ) (p : ℕ) (l : Layout) where
   pub column-cut : length b < p + 5 → Stopped RanOut ≡ afterColumn done (columnAt b p l)
@@ -156,8 +174,10 @@ module _ (b : List ℕ) (p : ℕ) (l : Layout) where
     column-unnamed t = no-name (endOf b (l .strings + n)) refl t
 
     pub column-named : isAt (endOf b (l .strings + n)) ≡ true
-        → afterCell (Done (p + inRecord x)) (constantAt b (storageOf x) (x % 16) (p + 5) l) ≡ afterColumn done (columnAt b p l)
+        → afterCell (Done (p + inRecord (l .mode) x)) (constantAt b (storageOf (l .mode) x) (x % 16) (p + 5) l) ≡ afterColumn done (columnAt b p l)
     unfolding columnFrom
     column-named t =
-        rw tag (held-to (l .strings + n) (at b p) (p + inRecord (at b p)) (constantAt b (storageOf (at b p)) (at b p % 16) (p + 5) l))
+        let s = storageOf (l .mode) x in
+        held-to (l .strings + n) s (x % 16) (p + inRecord (l .mode) x) (constantAt b s (x % 16) (p + 5) l)
+        ∙ ap (λ (y : ℕ). afterColumn done (columnBy b p y (l .strings + n) l)) tag
         ∙ ap (afterColumn done) (named-so (endOf b (l .strings + n)) refl t)

@@ -5,6 +5,7 @@ use Prim.Native.Nat.{ℕ, _-_, _≤_, _<_}
 use native.Mathlib.Omega.{arith}
 use lib.ListN.{length, take, drop, length-drop}
 use lib.Seq.{take-all}
+use Rattle.reading.specs.declared.TableMode.{TableMode}
 use Rattle.refusal.specs.declared.Cause.{Cause}
 use Rattle.refusal.specs.declared.Cause.the-variants as cause
 use Rattle.layout.specs.declared.Layout.{Layout}
@@ -19,13 +20,13 @@ use Rattle.table.specs.Walks.{walkOf}
 use Rattle.table.specs.Tables.{refusedAt, tableTo, tableFrom, tableOf}
 
 module _ (place : ℕ) (t : List ℕ) where
-  pub unlaid : (why : Cause) → layoutIn t ≡ NoLayout why → refusedAt place why ≡ tableOf place t
+  pub unlaid : (m : TableMode) (why : Cause) → layoutIn t m ≡ NoLayout why → refusedAt place why ≡ tableOf place t m
   unfolding tableOf
-  unlaid why e = sym (ap (tableFrom place t) e)
+  unlaid m why e = sym (ap (tableFrom place t) e)
 
-  pub walked : (l : Layout) → layoutIn t ≡ Laid l → tableTo place l (walkOf (bodyOf t l) l) ≡ tableOf place t
+  pub walked : (m : TableMode) (l : Layout) → layoutIn t m ≡ Laid l → tableTo place l (walkOf (bodyOf t l) l) ≡ tableOf place t m
   unfolding tableOf
-  walked l e = sym (ap (tableFrom place t) e)
+  walked m l e = sym (ap (tableFrom place t) e)
 
   -- a table that was read has the layout that its header says
   to-table : (l m : Layout) (w : Walk) → tableTo place m w ≡ Table l → m ≡ l
@@ -36,16 +37,16 @@ module _ (place : ℕ) (t : List ℕ) where
   from-layout l (Laid m) e = ap Laid (to-table l m (walkOf (bodyOf t m) m) e)
   from-layout l (NoLayout why) e = let z : _≡_ {A = ℕ} 0 1 = cc in absurd (omega arith)
 
-  pub laid-out : (l : Layout) → tableOf place t ≡ Table l → layoutIn t ≡ Laid l
+  pub laid-out : (m : TableMode) (l : Layout) → tableOf place t m ≡ Table l → layoutIn t m ≡ Laid l
   unfolding tableOf
-  laid-out l e = from-layout l (layoutIn t) e
+  laid-out m l e = from-layout l (layoutIn t m) e
 
 -- ---- a table at a place
 
 -- past the end there are no bytes
-pub past-the-end : (bytes : List ℕ) (place : ℕ) → length bytes < place → refusedAt place cause.RanOut ≡ tableOf place (drop place bytes)
-past-the-end bytes place h =
-    unlaid place (drop place bytes) cause.RanOut (sym (short (drop place bytes) (omega (arith, length-drop place bytes))))
+pub past-the-end : (bytes : List ℕ) (place : ℕ) (m : TableMode) → length bytes < place → refusedAt place cause.RanOut ≡ tableOf place (drop place bytes) m
+past-the-end bytes place m h =
+    unlaid place (drop place bytes) m cause.RanOut (sym (short (drop place bytes) m (omega (arith, length-drop place bytes))))
 
 -- what a slice has from a place on
 pub from-place : (bytes : List ℕ) (place : ℕ) → place ≤ length bytes → take (length bytes - place) (drop place bytes) ≡ drop place bytes

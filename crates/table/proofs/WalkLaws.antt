@@ -36,23 +36,23 @@ module _ (b : List ℕ) (l : Layout) where
   -- x is the type byte at p, as it was read
   module _ (n p q x : ℕ) (some : 0 < n) (read : x ≡ at b p) where
     abbrev here : CellAnswer
-    here = cellIn b (storageOf x) Nothing (x % 16) q l
+    here = cellIn b (storageOf (l .mode) x) Nothing (x % 16) q l
 
-    opened : (m : ℕ) → suc m ≡ n → rowFrom b l n p q ≡ afterCell (rowFrom b l m (p + inRecord x) (q + inRow x)) here
+    opened : (m : ℕ) → suc m ≡ n → rowFrom b l n p q ≡ afterCell (rowFrom b l m (p + inRecord (l .mode) x) (q + inRow (l .mode) x)) here
     unfolding rowFrom
     opened m e = rw (← e, read)
 
     -- w is what the column takes in its record, m where its cell ends
-    pub row-next : (w m : ℕ) → w ≡ inRecord x → afterCell (Done (q + inRow x)) here ≡ Done m → rowFrom b l n p q ≡ rowFrom b l (n - 1) (p + w) m
+    pub row-next : (w m : ℕ) → w ≡ inRecord (l .mode) x → afterCell (Done (q + inRow (l .mode) x)) here ≡ Done m → rowFrom b l n p q ≡ rowFrom b l (n - 1) (p + w) m
     row-next w m f g =
         let e : suc (n - 1) ≡ n = omega arith in
-        let h = cell-passed here (q + inRow x) m g in
-        opened (n - 1) e ∙ h .1 (rowFrom b l (n - 1) (p + inRecord x) (q + inRow x)) ∙ rw (h .0, f)
+        let h = cell-passed here (q + inRow (l .mode) x) m g in
+        opened (n - 1) e ∙ h .1 (rowFrom b l (n - 1) (p + inRecord (l .mode) x) (q + inRow (l .mode) x)) ∙ rw (h .0, f)
 
-    pub row-stop : (cause : Cause) → afterCell (Done (q + inRow x)) here ≡ Stopped cause → rowFrom b l n p q ≡ Stopped cause
+    pub row-stop : (cause : Cause) → afterCell (Done (q + inRow (l .mode) x)) here ≡ Stopped cause → rowFrom b l n p q ≡ Stopped cause
     row-stop cause g =
         let e : suc (n - 1) ≡ n = omega arith in
-        opened (n - 1) e ∙ cell-stopped here (q + inRow x) cause g (rowFrom b l (n - 1) (p + inRecord x) (q + inRow x))
+        opened (n - 1) e ∙ cell-stopped here (q + inRow (l .mode) x) cause g (rowFrom b l (n - 1) (p + inRecord (l .mode) x) (q + inRow (l .mode) x))
 
   pub row-end : (n p q : ℕ) → n ≤ 0 → rowFrom b l n p q ≡ Done q
   unfolding rowFrom

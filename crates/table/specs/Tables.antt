@@ -2,6 +2,7 @@
 use Prim.Native.Nat.{ℕ}
 use mathlib.Core.List.{List}
 use lib.ListN.{drop}
+use Rattle.reading.specs.declared.TableMode.{TableMode}
 use Rattle.refusal.specs.declared.Cause.{Cause}
 use Rattle.layout.specs.declared.Layout.{Layout}
 use Rattle.layout.specs.declared.LayoutAnswer.{LayoutAnswer}
@@ -26,9 +27,9 @@ abbrev pub tableFrom : ℕ → List ℕ → LayoutAnswer → TableAnswer
 tableFrom place t (Laid l) = tableTo place l (walkOf (bodyOf t l) l)
 tableFrom place t (NoLayout why) = refusedAt place why
 
-unfoldable pub tableOf : ℕ → List ℕ → TableAnswer
-tableOf place t = tableFrom place t (layoutIn t)
+unfoldable pub tableOf : ℕ → List ℕ → TableMode → TableAnswer
+tableOf place t m = tableFrom place t (layoutIn t m)
 
--- the table at a place of a slice; past the slice's end it has no bytes
-abbrev pub tableAt : List ℕ → ℕ → TableAnswer
-tableAt bytes place = tableOf place (drop place bytes)
+-- the table at a place of a slice, read in a mode; past the slice's end it has no bytes
+abbrev pub tableAt : List ℕ → ℕ → TableMode → TableAnswer
+tableAt bytes place m = tableOf place (drop place bytes) m

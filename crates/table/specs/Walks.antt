@@ -33,7 +33,7 @@ afterCell w (Refused cause) = Stopped cause
 unfoldable pub rowFrom : List ℕ → Layout → ℕ → ℕ → ℕ → Walk
 rowFrom b l zero p q = Done q
 rowFrom b l (suc n) p q =
-    afterCell (rowFrom b l n (p + inRecord (at b p)) (q + inRow (at b p))) (cellIn b (storageOf (at b p)) Nothing (at b p % 16) q l)
+    afterCell (rowFrom b l n (p + inRecord (l .mode) (at b p)) (q + inRow (l .mode) (at b p))) (cellIn b (storageOf (l .mode) (at b p)) Nothing (at b p % 16) q l)
 
 abbrev pub afterWalk : (ℕ → Walk) → Walk → Walk
 afterWalk k (Done q) = k q

@@ -1,5 +1,5 @@
 // An @UTF table: all of its columns and then all of its rows are checked, in document 01's order of refusals.
-// Document 01, "@UTF tables". From the Rust: `get_utf_table`.
+// Document 01, "@UTF tables", and document 02, §5. From the Rust: `get_utf_table`.
 //
 // A text is fine where a zero byte stands at or after its start in the body. With `ends`, one past the body's last zero,
 // that is one comparison, so the walk searches no text and costs a little for each column and each cell.
@@ -10,7 +10,7 @@ ghost use Rattle.layout.specs.Layouts.{bodyOf};
 ghost use Rattle.cell.specs.declared.Cell.the-variants.{Nothing};
 ghost use Rattle.cell.specs.Types.{kindOf, widthOf};
 ghost use Rattle.cell.specs.Parts.{endOf, textAt, dataAt};
-ghost use Rattle.cell.specs.Cells.{valueAt, cellAt};
+ghost use Rattle.cell.specs.Cells.{valueAt, cellAt, zeroCell};
 ghost use Rattle.column.specs.Storages.{storageOf, inRecord, inRow, constantAt, cellIn};
 ghost use Rattle.column.specs.Columns.{columnAt};
 ghost use Rattle.table.specs.Walks.{afterCell, afterColumn, columnsFrom, rowFrom, rowsFrom, walkOf};
@@ -20,6 +20,7 @@ use cell::CellAnswer;
 use column::Storage;
 use layout::Layout;
 use layout::LayoutAnswer;
+use reading::TableMode;
 use refusal::Cause;
 use refusal::Refusal;
 
@@ -121,9 +122,10 @@ fn check_cell(body: &[u8], ends: usize, kind: u8, at: usize, layout: Layout) -> 
 // The check of what follows a column's name offset: on to where its record ends, or why not.
 fn check_constant(body: &[u8], ends: usize, tag: usize, at: usize, layout: Layout) -> Walk
     requires { ⌜ (at + 5 ≤ length (now body)) × (ends ≡ zerosEnd (now body)) ⌝ }
-    ensures { λ r. ⌜ r ≡ afterCell (Walk.Done (at + inRecord tag)) (constantAt (now (body .entry)) (storageOf tag) (tag % 16) (at + 5) layout) ⌝ }
+    ensures { λ r. ⌜ r ≡ afterCell (Walk.Done (at + inRecord (layout .mode) tag)) (constantAt (now (body .entry)) (storageOf (layout .mode) tag) (tag % 16) (at + 5) layout) ⌝ }
 {
-    match column::storage_of(tag) {
+    let mode = layout.mode;
+    match column::storage_of(tag, mode) {
         Storage::Constant => check_cell(
             body,
             ends,
@@ -132,6 +134,8 @@ fn check_constant(body: &[u8], ends: usize, tag: usize, at: usize, layout: Layou
             layout,
         ),
         Storage::Stored => Walk::Done(at + column::RECORD),
+        Storage::Zero => Walk::Done(at + column::RECORD),
+        Storage::Unknown => Walk::Stopped(Cause::UnknownStorage),
     }
 }
 
@@ -172,14 +176,27 @@ fn walk_columns(body: &[u8], ends: usize, layout: Layout) -> Walk
     Walk::Done(at)
 }
 
+// The check of a cell for which nothing is stored: on to `next`, or why not.
+fn check_zero(kind: u8, next: usize) -> Walk
+    ensures { λ r. ⌜ r ≡ afterCell (Walk.Done next) (zeroCell kind) ⌝ }
+{
+    match cell::zero_cell(kind) {
+        CellAnswer::Got(_) => Walk::Done(next),
+        CellAnswer::Refused(cause) => Walk::Stopped(cause),
+    }
+}
+
 // The check of a column's cell in a row: on to where the next column's stands, or why not. A constant was checked with its column.
 fn check_in_row(body: &[u8], ends: usize, tag: usize, at: usize, layout: Layout) -> Walk
     requires { ⌜ ends ≡ zerosEnd (now body) ⌝ }
-    ensures { λ r. ⌜ r ≡ afterCell (Walk.Done (at + inRow tag)) (cellIn (now (body .entry)) (storageOf tag) Nothing (tag % 16) at layout) ⌝ }
+    ensures { λ r. ⌜ r ≡ afterCell (Walk.Done (at + inRow (layout .mode) tag)) (cellIn (now (body .entry)) (storageOf (layout .mode) tag) Nothing (tag % 16) at layout) ⌝ }
 {
-    match column::storage_of(tag) {
+    let mode = layout.mode;
+    match column::storage_of(tag, mode) {
         Storage::Constant => Walk::Done(at),
         Storage::Stored => check_cell(body, ends, column::kind_of(tag), at, layout),
+        Storage::Zero => check_zero(column::kind_of(tag), at),
+        Storage::Unknown => Walk::Stopped(Cause::UnknownStorage),
     }
 }
 
@@ -201,7 +218,8 @@ fn walk_row(body: &[u8], ends: usize, from: usize, layout: Layout) -> Walk
                 return Walk::Stopped(cause);
             }
         }
-        entry = entry + column::in_record(tag);
+        let mode = layout.mode;
+        entry = entry + column::in_record(tag, mode);
         left -= 1;
     }
     Walk::Done(at)
@@ -260,21 +278,21 @@ fn checked(table: &[u8], layout: Layout, place: usize) -> TableAnswer
 }
 
 // The table that a slice begins with; `place` is where that is.
-fn read_from(table: &[u8], place: usize) -> TableAnswer
-    ensures { λ r. ⌜ r ≡ tableOf place (now (table .entry)) ⌝ }
+fn read_from(table: &[u8], place: usize, mode: TableMode) -> TableAnswer
+    ensures { λ r. ⌜ r ≡ tableOf place (now (table .entry)) mode ⌝ }
 {
-    match layout::read_layout(table) {
+    match layout::read_layout(table, mode) {
         LayoutAnswer::Laid(layout) => checked(table, layout, place),
         LayoutAnswer::NoLayout(cause) => refused(cause, place),
     }
 }
 
-// The table at a place of a slice: its layout, or why it is refused. A place past the end has no bytes.
-pub fn read_table(bytes: &[u8], place: usize) -> TableAnswer
-    ensures { λ r. ⌜ r ≡ tableAt (now (bytes .entry)) place ⌝ }
+// The table at a place of a slice, read in a mode: its layout, or why it is refused. A place past the end has no bytes.
+pub fn read_table(bytes: &[u8], place: usize, mode: TableMode) -> TableAnswer
+    ensures { λ r. ⌜ r ≡ tableAt (now (bytes .entry)) place mode ⌝ }
 {
     if bytes.len() < place {
         return refused(Cause::RanOut, place);
     }
-    read_from(&bytes[place..], place)
+    read_from(&bytes[place..], place, mode)
 }

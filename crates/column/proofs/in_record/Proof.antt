@@ -25,6 +25,12 @@ add-result c = search needs
 enum-told-2 : tie.Need-enum-told-2
 enum-told-2 c = search needs
 
+enum-told-3 : tie.Need-enum-told-3
+enum-told-3 c = search needs
+
+enum-told-4 : tie.Need-enum-told-4
+enum-told-4 c = search needs
+
 returns : tie.Need-returns
 returns c =
     let s = c .before .before .before .before in
@@ -33,6 +39,12 @@ returns c =
 
 returns-2 : tie.Need-returns-2
 returns-2 c = (rw (sym (c .before .before .storage-of .ensures) ∙ c .enum-told2 .given .1), omega arith)
+
+returns-3 : tie.Need-returns-3
+returns-3 c = (rw (sym (c .before .before .storage-of .ensures) ∙ c .enum-told3 .given .1), omega arith)
+
+returns-4 : tie.Need-returns-4
+returns-4 c = (rw (sym (c .before .before .storage-of .ensures) ∙ c .enum-told4 .given .1), omega arith)
 
 pub in-record-spec : {M : Type 1} → statement M
 in-record-spec =
@@ -44,5 +56,9 @@ in-record-spec =
     width-of-requires
     add-result
     enum-told-2
+    enum-told-3
+    enum-told-4
     returns
-    returns-2)
+    returns-2
+    returns-3
+    returns-4)

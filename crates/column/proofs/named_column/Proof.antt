@@ -26,8 +26,8 @@ enum-known-constant c = search needs
 in-record-requires : tie.Need-in-record-requires
 in-record-requires c κs = search needs
 
-add-t14 : tie.Need-add-t14
-add-t14 c = search needs
+add-t15 : tie.Need-add-t15
+add-t15 c = search needs
 
 enum-known-cause : tie.Need-enum-known-cause
 enum-known-cause c = search needs
@@ -63,7 +63,7 @@ named-column-spec =
     constant-at-requires
     enum-known-constant
     in-record-requires
-    add-t14
+    add-t15
     enum-known-cause
     returns
     returns-2)

@@ -15,7 +15,7 @@ read16-requires c κs = search needs
 returns : tie.Need-returns
 returns c =
     let a = c .before .before .before .args in
-    many-columns (a .table .now) (a .size) (omega arith)
+    many-columns (a .table .now) (a .mode) (a .size) (omega arith)
 
 read32-requires : tie.Need-read32-requires
 read32-requires c κs = search needs
@@ -23,7 +23,7 @@ read32-requires c κs = search needs
 returns-2 : tie.Need-returns-2
 returns-2 c =
     let a = c .before .before .before .before .before .args in
-    many-rows (a .table .now) (a .size) (omega arith) (omega arith)
+    many-rows (a .table .now) (a .mode) (a .size) (omega arith) (omega arith)
 
 read16-requires-2 : tie.Need-read16-requires-2
 read16-requires-2 c κs = search needs
@@ -51,7 +51,7 @@ returns-3 c =
     let rows = offset .before .before in
     let columns = rows .before .before in
     let a = columns .before .before .args in
-    let all = laid (a .table .now) (a .size) (omega (arith, rows .before .if1 .left)) (omega (arith, offset .before .if2 .left)) in
+    let all = laid (a .table .now) (a .mode) (a .size) (omega (arith, rows .before .if1 .left)) (omega (arith, offset .before .if2 .left)) in
     rw (columns .read16 .ensures .0, rows .read32 .ensures .0, start .start-of .ensures, offset .read162 .ensures .0, strings .read322 .ensures .0, c .read323 .ensures .0) all
 
 pub counted-spec : {M : Type 1} → statement M

@@ -9,7 +9,7 @@ use Rattle.layout.proofs.read_layout.Statement.{statement}
 use Rattle.layout.proofs.read_layout.Tie as tie
 
 returns : tie.Need-returns
-returns c = short (c .before .before .args .table .now) (omega arith)
+returns c = short (c .before .before .args .table .now) (c .before .before .args .mode) (omega arith)
 
 read32-requires : tie.Need-read32-requires
 read32-requires c κs = search needs
@@ -17,12 +17,12 @@ read32-requires c κs = search needs
 returns-2 : tie.Need-returns-2
 returns-2 c =
     let signed = c .before in
-    unsigned (signed .before .before .before .args .table .now) (omega arith) (λ e. c .if2 .taken (signed .read32 .ensures .0 ∙ e))
+    unsigned (signed .before .before .before .args .table .now) (signed .before .before .before .args .mode) (omega arith) (λ e. c .if2 .taken (signed .read32 .ensures .0 ∙ e))
 
 returns-3 : tie.Need-returns-3
 returns-3 c =
     let signed = c .before .before in
-    cut (signed .before .before .before .args .table .now) (omega arith) (omega arith) (omega arith)
+    cut (signed .before .before .before .args .table .now) (signed .before .before .before .args .mode) (omega arith) (omega arith) (omega arith)
 
 read32-requires-2 : tie.Need-read32-requires-2
 read32-requires-2 c κs = search needs
@@ -30,7 +30,7 @@ read32-requires-2 c κs = search needs
 returns-4 : tie.Need-returns-4
 returns-4 c =
     let signed = c .before .before .before .before in
-    small (signed .before .before .before .args .table .now) (omega arith) (omega arith) (omega arith) (omega arith)
+    small (signed .before .before .before .args .table .now) (signed .before .before .before .args .mode) (omega arith) (omega arith) (omega arith) (omega arith)
 
 add-if5 : tie.Need-add-if5
 add-if5 c = search needs
@@ -38,7 +38,7 @@ add-if5 c = search needs
 returns-5 : tie.Need-returns-5
 returns-5 c =
     let signed = c .before .before .before .before .before in
-    bodiless (signed .before .before .before .args .table .now) (omega arith) (omega arith) (omega arith) (omega arith) (omega arith)
+    bodiless (signed .before .before .before .args .table .now) (signed .before .before .before .args .mode) (omega arith) (omega arith) (omega arith) (omega arith) (omega arith)
 
 counted-requires : tie.Need-counted-requires
 counted-requires c κs = search needs
@@ -47,9 +47,10 @@ returns-6 : tie.Need-returns-6
 returns-6 c =
     let sized = c .before .before .before in
     let signed = sized .before .before .before in
-    let t = signed .before .before .before .args .table .now in
-    c .counted .ensures ∙ ap (λ (n : ℕ). countedIn t (n - 24)) (sized .read322 .ensures .0)
-    ∙ whole t (omega arith) (omega arith) (omega arith) (omega arith) (omega arith)
+    let a = signed .before .before .before .args in
+    let t = a .table .now in
+    c .counted .ensures ∙ ap (λ (n : ℕ). countedIn t (a .mode) (n - 24)) (sized .read322 .ensures .0)
+    ∙ whole t (a .mode) (omega arith) (omega arith) (omega arith) (omega arith) (omega arith)
 
 pub read-layout-spec : {M : Type 1} → statement M
 read-layout-spec =

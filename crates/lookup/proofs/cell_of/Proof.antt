@@ -17,7 +17,7 @@ row-cell-requires c κs =
     let k = c .before in
     let r = k .before .before in
     let a = r .before .before .before .args in
-    let w = AcceptedLiesWithin (a .bytes .now) (a .place) (k .layout .given .0 .0) (sym (r .read-table .ensures) ∙ k .layout .given .1) in
+    let w = AcceptedLiesWithin (a .bytes .now) (a .place) (a .mode) (k .layout .given .0 .0) (sym (r .read-table .ensures) ∙ k .layout .given .1) in
     ((w .0, w .1), w .3)
 
 enum-known-refusal : tie.Need-enum-known-refusal
@@ -28,13 +28,13 @@ returns c =
     let k = c .before .before in
     let r = k .before .before in
     let a = r .before .before .before .args in
-    c .row-cell .ensures ∙ in-table (a .bytes .now) (a .place) (a .name .now) (a .row) (k .layout .given .0 .0) (sym (r .read-table .ensures) ∙ k .layout .given .1)
+    c .row-cell .ensures ∙ in-table (a .bytes .now) (a .place) (a .name .now) (a .mode) (a .row) (k .layout .given .0 .0) (sym (r .read-table .ensures) ∙ k .layout .given .1)
 
 returns-2 : tie.Need-returns-2
 returns-2 c =
     let r = c .before .before .before in
     let a = r .before .before .before .args in
-    no-table (a .bytes .now) (a .place) (a .name .now) (a .row) (c .before .refusal .given .0 .0) (sym (r .read-table .ensures) ∙ c .before .refusal .given .1)
+    no-table (a .bytes .now) (a .place) (a .name .now) (a .mode) (a .row) (c .before .refusal .given .0 .0) (sym (r .read-table .ensures) ∙ c .before .refusal .given .1)
 
 pub cell-of-spec : {M : Type 1} → statement M
 cell-of-spec =

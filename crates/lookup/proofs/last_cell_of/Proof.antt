@@ -22,7 +22,7 @@ row-cell-requires c κs =
     let k = c .before .before in
     let r = k .before .before in
     let a = r .before .before .before .args in
-    let w = AcceptedLiesWithin (a .bytes .now) (a .place) (k .layout .given .0 .0) (sym (r .read-table .ensures) ∙ k .layout .given .1) in
+    let w = AcceptedLiesWithin (a .bytes .now) (a .place) (a .mode) (k .layout .given .0 .0) (sym (r .read-table .ensures) ∙ k .layout .given .1) in
     ((w .0, w .1), w .3)
 
 enum-known-refusal : tie.Need-enum-known-refusal
@@ -34,13 +34,13 @@ returns c =
     let r = k .before .before in
     let a = r .before .before .before .args in
     c .row-cell .ensures ∙ ap (λ (row : ℕ). cellFrom (a .bytes .now) (a .place) (a .name .now) row (k .layout .given .0 .0)) (c .before .last-row .ensures)
-    ∙ last-in-table (a .bytes .now) (a .place) (a .name .now) (k .layout .given .0 .0) (sym (r .read-table .ensures) ∙ k .layout .given .1)
+    ∙ last-in-table (a .bytes .now) (a .place) (a .name .now) (a .mode) (k .layout .given .0 .0) (sym (r .read-table .ensures) ∙ k .layout .given .1)
 
 returns-2 : tie.Need-returns-2
 returns-2 c =
     let r = c .before .before .before in
     let a = r .before .before .before .args in
-    no-last (a .bytes .now) (a .place) (a .name .now) (c .before .refusal .given .0 .0) (sym (r .read-table .ensures) ∙ c .before .refusal .given .1)
+    no-last (a .bytes .now) (a .place) (a .name .now) (a .mode) (c .before .refusal .given .0 .0) (sym (r .read-table .ensures) ∙ c .before .refusal .given .1)
 
 pub last-cell-of-spec : {M : Type 1} → statement M
 last-cell-of-spec =

@@ -16,7 +16,7 @@ checked-requires : tie.Need-checked-requires
 checked-requires c κs =
     let r = c .before .before .before in
     let a = r .before .before .args in
-    let s = sound (a .table .now) (c .before .layout .given .0 .0) (sym (r .read-layout .ensures) ∙ c .before .layout .given .1) in
+    let s = sound (a .table .now) (a .mode) (c .before .layout .given .0 .0) (sym (r .read-layout .ensures) ∙ c .before .layout .given .1) in
     (s .0, s .3)
 
 enum-known-cause : tie.Need-enum-known-cause
@@ -30,14 +30,14 @@ returns c =
     let k = c .before .before in
     let r = k .before .before in
     let a = r .before .before .args in
-    c .checked .ensures ∙ walked (a .place) (a .table .now) (k .layout .given .0 .0) (sym (r .read-layout .ensures) ∙ k .layout .given .1)
+    c .checked .ensures ∙ walked (a .place) (a .table .now) (a .mode) (k .layout .given .0 .0) (sym (r .read-layout .ensures) ∙ k .layout .given .1)
 
 returns-2 : tie.Need-returns-2
 returns-2 c =
     let k = c .before .before in
     let r = k .before .before in
     let a = r .before .before .args in
-    c .refused .ensures ∙ unlaid (a .place) (a .table .now) (k .cause .given .0 .0) (sym (r .read-layout .ensures) ∙ k .cause .given .1)
+    c .refused .ensures ∙ unlaid (a .place) (a .table .now) (a .mode) (k .cause .given .0 .0) (sym (r .read-layout .ensures) ∙ k .cause .given .1)
 
 pub read-from-spec : {M : Type 1} → statement M
 read-from-spec =

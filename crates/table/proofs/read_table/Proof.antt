@@ -1,5 +1,7 @@
 -- `table::read_table` meets its contract: what a slice has from a place on is the slice without what stands before it. Assumes nothing.
 use mathlib.Core.Path.{ap, _∙_}
+use mathlib.Core.List.{List}
+use Prim.Native.Nat.{ℕ}
 use native.Mathlib.Omega.{arith}
 use borrow.Author.Needs.{needs}
 use Rattle.table.specs.Tables.{tableOf}
@@ -13,7 +15,7 @@ refused-requires c κs = search needs
 returns : tie.Need-returns
 returns c =
     let a = c .before .before .before .args in
-    c .refused .ensures ∙ past-the-end (a .bytes .now) (a .place) (omega arith)
+    c .refused .ensures ∙ past-the-end (a .bytes .now) (a .place) (a .mode) (omega arith)
 
 sub-read-from : tie.Need-sub-read-from
 sub-read-from c = search needs
@@ -30,7 +32,7 @@ read-from-requires c κs = search needs
 returns-2 : tie.Need-returns-2
 returns-2 c =
     let a = c .before .before .before .before .args in
-    c .read-from .ensures ∙ ap (tableOf (a .place)) (from-place (a .bytes .now) (a .place) (omega arith))
+    c .read-from .ensures ∙ ap (λ (t : List ℕ). tableOf (a .place) t (a .mode)) (from-place (a .bytes .now) (a .place) (omega arith))
 
 pub read-table-spec : {M : Type 1} → statement M
 read-table-spec =
