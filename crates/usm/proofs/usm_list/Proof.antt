@@ -1,11 +1,24 @@
--- `usm::usm_list` meets its contract: a walk of its MIR, by hand. The plan says what is answered and how many records are stored.
--- The borrow of the list is opened once, before the loop, and closed once, after it. A turn calls `record_at`, of which the proof
--- knows only that it meets its contract, takes record i out of the row, stores the new one there, and puts it back. Assumes nothing.
+-- `usm::usm_list` meets its contract: a walk of its MIR, by hand, since it lends a slice of structs. Assumes nothing.
+--
+-- The plan says what is replied and how many records are stored. The borrow of the list is opened once, before the loop, and closed once, after it. A turn
+-- calls `record_at`, of which the proof knows only that it meets its contract, takes record i out of the row, stores the new one there, and puts it back.
+--
+-- The map, in the order in which the code runs:
+--     walk      the frame is made, the arguments are passed, the list's length is read, its borrow is opened, `list_plan` is called: p is the plan
+--     goes-on   place and filled are set, and the loop is entered, at `begins`
+--     turns     a turn: `stores` where a record is left to store, else `leaves`
+--     stores    the test, the call of `record_at`, the store, place and filled go on, and the loop is at `turned`
+--     leaves    the test, the loop is left, the borrow is closed, the reply is copied, the frame is released
+--     exits     what is owned then is what the contract asks for
+-- What the loop keeps is `Stored` of `list`'s FillLaws: what is stored so far, with the records from here on, is what the whole stores.
+-- The locals: _0 the result; _1 container; _2 reading; _3 list; _4 plan; _5 place; _6 filled; _7 step; _8 the list's length; _9 the loop's test;
+-- _10 how far record i lies in the list; _11 where it lies.
+-- A comment in brackets says what the context holds there, by position; each local takes two places, its memory and its end.
 use mathlib.Core.Path.{_≡_, refl, sym, ap, subst, _∙_}
 use Prim.Native.Nat.{ℕ, _<_, _≤_, _*_, _+_, _-_, _^_}
 use native.Mathlib.Omega.{arith}
 use mathlib.Core.Bool.{Bool}
-use mathlib.Core.List.{[], _∷_, List}
+use mathlib.Core.List.{[], _∷_, _++_, List}
 use mathlib.Core.WellFounded.{WellFounded, InvImage·wf}
 use mathlib.Core.Logic.{⊎-elim}
 use lib.WfN.{Nat·lt-wfRel}
@@ -100,6 +113,7 @@ module _ {M : Type 1} (𝓤 : URA M) (H : Heap 𝓤) (A : Atoms 𝓤) (mem : Mem
 
 module _ {M : Type 1} (𝓤 : URA M) (H : Heap 𝓤) (A : Atoms 𝓤) (W : Given 𝓤 H A) (mem : Memory → SProp 𝓤) (run : Routine → Fun 𝓤) (κ κ′ : Lft) (q q′ : Share)
     (container : RefT (List ℕ)) (wish : ReadingBytes) (b o : ℕ) (γ : GName) (list : List ChunkRecord) where
+  -- ---- what is passed: the container for κ, how it is read, and the list for κ′, as values of the logic and of the machine
   abbrev x : List ChunkRecord → RefT (List ChunkRecord)
   x l = record { ptr = (b, o); name = γ; now = l }
 
@@ -229,14 +243,22 @@ module _ {M : Type 1} (𝓤 : URA M) (H : Heap 𝓤) (A : Atoms 𝓤) (W : Given
       abbrev En : Env 𝓤 H
       En = (L′.mir, l₀) ∷ (bytes, l₁) ∷ (B′.mir, l₂) ∷ (records, l₃) ∷ (P′.mir, l₄) ∷ (word, l₅) ∷ (word, l₆) ∷ (S′.mir, l₇) ∷ (word, l₈) ∷ (tyBool, l₉) ∷ (word, l₁₀) ∷ (tyPtr, l₁₁) ∷ []
 
+      -- _11 to _9, which hold nothing between two turns
+      abbrev Idle : List (Item 𝓤)
+      Idle = ‵ (froom tyPtr l₁₁ 0) ∷ ‵ (fdies tyPtr l₁₁) ∷ ‵ (froom word l₁₀ 0) ∷ ‵ (fdies word l₁₀) ∷ ‵ (froom tyBool l₉ 0) ∷ ‵ (fdies tyBool l₉) ∷ []
+
+      -- _4 to _0, which the loop leaves alone, and the list's borrow while it is open: what waits for it, and both halves of its name
+      abbrev Fixed : List (Item 𝓤)
+      Fixed = ‵ (fat fullShare P′.mir l₄ 0 pv) ∷ ‵ (fdies P′.mir l₄) ∷ ‵ (fat fullShare records l₃ 0 lv) ∷ ‵ (fdies records l₃)
+          ∷ ‵ (fat fullShare B′.mir l₂ 0 wv) ∷ ‵ (fdies B′.mir l₂) ∷ ‵ (fat fullShare bytes l₁ 0 cv) ∷ ‵ (fdies bytes l₁) ∷ ‵ (froom L′.mir l₀ 0) ∷ ‵ (fdies L′.mir l₀)
+          ∷ ‵ (fobor κ′ q′ (Held T.the-row (length list) b o γ)) ∷ ‵ (fobs γ (codedHoleys T.the-row .code (heres T.the-row list))) ∷ ‵ (fauth γ (codedHoleys T.the-row .code (heres T.the-row list))) ∷ []
+
+      -- what is had where the loop stands
       -- 0 the row; 1 the token; 2 what the container owns; 3 _11; 5 _10; 7 _9; 9 _8; 11 _7; 13 _6; 15 _5; 17 _4; 19 _3; 21 _2; 23 _1; 25 room for _0; 27 the open borrow; 28 obs; 29 auth
       abbrev At : St → List (Item 𝓤)
       At t = ‵ (row T.the-row fullShare (t .now) b o) ∷ (‵ (flft κ q) ⊛ ‵ ftrue) ∷ ‵ Own
-          ∷ ‵ (froom tyPtr l₁₁ 0) ∷ ‵ (fdies tyPtr l₁₁) ∷ ‵ (froom word l₁₀ 0) ∷ ‵ (fdies word l₁₀) ∷ ‵ (froom tyBool l₉ 0) ∷ ‵ (fdies tyBool l₉) ∷ ‵ (froom word l₈ 0) ∷ ‵ (fdies word l₈)
-          ∷ ‵ (froom S′.mir l₇ 0) ∷ ‵ (fdies S′.mir l₇) ∷ ‵ (fat fullShare word l₆ 0 (vint w64 (t .filled))) ∷ ‵ (fdies word l₆) ∷ ‵ (fat fullShare word l₅ 0 (vint w64 (t .place))) ∷ ‵ (fdies word l₅)
-          ∷ ‵ (fat fullShare P′.mir l₄ 0 pv) ∷ ‵ (fdies P′.mir l₄) ∷ ‵ (fat fullShare records l₃ 0 lv) ∷ ‵ (fdies records l₃)
-          ∷ ‵ (fat fullShare B′.mir l₂ 0 wv) ∷ ‵ (fdies B′.mir l₂) ∷ ‵ (fat fullShare bytes l₁ 0 cv) ∷ ‵ (fdies bytes l₁) ∷ ‵ (froom L′.mir l₀ 0) ∷ ‵ (fdies L′.mir l₀)
-          ∷ ‵ (fobor κ′ q′ (Held T.the-row (length list) b o γ)) ∷ ‵ (fobs γ (codedHoleys T.the-row .code (heres T.the-row list))) ∷ ‵ (fauth γ (codedHoleys T.the-row .code (heres T.the-row list))) ∷ []
+          ∷ (Idle ++ (‵ (froom word l₈ 0) ∷ ‵ (fdies word l₈) ∷ ‵ (froom S′.mir l₇ 0) ∷ ‵ (fdies S′.mir l₇)
+          ∷ ‵ (fat fullShare word l₆ 0 (vint w64 (t .filled))) ∷ ‵ (fdies word l₆) ∷ ‵ (fat fullShare word l₅ 0 (vint w64 (t .place))) ∷ ‵ (fdies word l₅) ∷ Fixed))
 
       abbrev Turned : St → Out → SProp 𝓤
       Turned t = afterTurn 𝓤 H (Below 𝓤 H A Nearer At t) (afterBlock 𝓤 H (afterSeq 𝓤 H (Wp 𝓤 H C Λ En mirs.t-6 (atReturn 𝓤 H En Post)) (atReturn 𝓤 H En Post)))
@@ -245,12 +267,13 @@ module _ {M : Type 1} (𝓤 : URA M) (H : Heap 𝓤) (A : Atoms 𝓤) (W : Given
       stores : (t : St) → t .filled < n → Sq W (At t) (runs C Λ En mirs.turn-1 (anyQ (Turned t)))
       unfolding afterTurn
       stores t h =
+          -- filled < plan.records
           assigns ! (bin ! (load ! (from ! (stop !)) (look ! 13 refl)) (load ! (from ! (fld ! refl (stop !))) (look-in ! 17 (sub ! 1 refl (whole !)))) tt) (from ! (stop !)) (init ! 7 refl (tt, tt)) $
           rewrite ! 7 (λ (c : Bool). ‵ (fat fullShare tyBool l₉ 0 (vbool c))) (lt-ltb (t .filled) n h) refl $ stays ! (load ! (from ! (stop !)) (look ! 7 refl)) $
           let within : t .filled < length (t .now) = omega (arith, t .long, few) in
           let far : Fits w64 (t .filled * 24) = omega (arith, room .1, t .long, few) in
           let next-fits : Fits w64 (t .filled + 1) = omega (arith, room .0, few) in
-          -- the call
+          -- let step = list::record_at(container, place, plan.reading)
           move ! (2 ∷ []) $ use1 W (‵ Own ⊛ ‵ Own) (shr-slice-copy 𝓤 H A W (named 0) κ u8 .twice container (cv ∷ [])) $ split ! $ move ! (3 ∷ 0 ∷ []) $
           use2 W (raw (RecordAt 𝓤 H A mem run .pre (to (p .reading) (t .place)))) (asked (p .reading) (t .place) reading-is (t .fits)) $
           calls-at ! (fmOf 𝓤 H (W .laws) 𝓣) (RecordAt 𝓤 H A mem run) known (to (p .reading) (t .place)) (and-then ! (load ! (from ! (stop !)) (look ! 23 refl)) (and-then ! (load ! (from ! (stop !)) (look ! 15 refl)) (and-then ! (load ! (from ! (fld ! refl (stop !))) (look-in ! 17 (sub ! 3 refl (whole !)))) (no-more !)))) (λ u.
@@ -262,6 +285,7 @@ module _ {M : Type 1} (𝓤 : URA M) (H : Heap 𝓤) (A : Atoms 𝓤) (W : Given
           land ! (from ! (stop !)) (init ! 12 refl (LL.lawful S.the-type S′.the-laws 𝓤 H A W .typed r _ is .0)) $
           rewrite ! 12 (λ (v : Val). ‵ (fat fullShare S′.mir l₇ 0 v)) (ap only (LL.tells S.the-type S′.the-laws r (u ∷ []) is)) refl $ drop ! $ move ! (2 ∷ []) $
           -- [the row; the token; what the container owns; 3 _11; …]
+          -- list[filled] = step.made
           assigns ! (bin ! (load ! (from ! (stop !)) (look ! 13 refl)) (lit ! tt) far) (from ! (stop !)) (init ! 5 refl (tt, far)) $
           assigns ! (bin ! (load ! (from ! (fld ! refl (stop !))) (look-in ! 19 (sub ! 0 refl (whole !)))) (load ! (from ! (stop !)) (look ! 5 refl)) tt) (from ! (stop !)) (init ! 3 refl (tt, tt)) $
           rewrite ! 3 (λ (m : ℕ). ‵ (fat fullShare tyPtr l₁₁ 0 (vptr b m))) (sym (place-is 24 o (t .filled))) refl $
@@ -270,7 +294,9 @@ module _ {M : Type 1} (𝓤 : URA M) (H : Heap 𝓤) (A : Atoms 𝓤) (W : Given
           assigns ! (of-opd ! (load ! (from ! (fld ! refl (stop !))) (look-in ! 13 (sub ! 0 refl (whole !))))) (from ! (hop ! (look ! 5 refl) (stop !))) (store-raw ! 0 refl (LL.lawful T.the-type T′.the-laws 𝓤 H A W .typed (r .made) _ made-is .0)) $
           move ! (1 ∷ []) $ drop ! $ owned ! T.the-row (Is T.the-row) ((LL.makes T.the-type T′.the-plain) 𝓤 H A) (r .made) _ made-is $ move ! (1 ∷ 0 ∷ []) $
           elem-put ! T.the-row fullShare (t .now) (t .filled) (r .made) (LL.vals T.the-type T′.the-laws (r .made)) b o within $
+          -- place = step.next
           assigns ! (of-opd ! (load ! (from ! (fld ! refl (stop !))) (look-in ! 11 (sub ! 1 refl (whole !))))) (from ! (stop !)) (store ! 15 refl (tt, next-is)) $
+          -- filled += 1
           assigns-last ! (bin ! (load ! (from ! (stop !)) (look ! 13 refl)) (lit ! tt) next-fits) (from ! (stop !)) (store ! 13 refl (tt, next-fits)) $
           forget ! 3 refl $ forget ! 5 refl $ forget ! 7 refl $ forget ! 11 refl $
           again ! Nearer At t (turned (now container) p list t h r e (next-is .fits)) (omega arith))))))
@@ -279,10 +305,12 @@ module _ {M : Type 1} (𝓤 : URA M) (H : Heap 𝓤) (A : Atoms 𝓤) (W : Given
       leaves : (t : St) → n ≤ t .filled → Sq W (At t) (runs C Λ En mirs.turn-1 (anyQ (Turned t)))
       unfolding afterTurn
       leaves t over =
+          -- filled < plan.records
           assigns ! (bin ! (load ! (from ! (stop !)) (look ! 13 refl)) (load ! (from ! (fld ! refl (stop !))) (look-in ! 17 (sub ! 1 refl (whole !)))) tt) (from ! (stop !)) (init ! 7 refl (tt, tt)) $
           rewrite ! 7 (λ (c : Bool). ‵ (fat fullShare tyBool l₉ 0 (vbool c))) (le-ltb (t .filled) n over) refl $ leaves-loop ! (load ! (from ! (stop !)) (look ! 7 refl)) $ exec ! C Λ En mirs.t-6 (atRet En Post) $
           move ! (0 ∷ 27 ∷ 28 ∷ 29 ∷ []) $ closes-slice ! tt T.the-row list (t .now) (t .long) b o $
           -- [obs; the borrow; its token; the token; what the container owns; 5 _11; …; 19 _4; …; 27 room for _0; …]
+          -- plan.reply
           assigns ! (of-opd ! (load ! (from ! (fld ! refl (stop !))) (look-in ! 19 (sub ! 0 refl (whole !))))) (from ! (stop !)) (init ! 27 refl (LL.lawful L.the-type L′.the-laws 𝓤 H A W .typed (p .reply) _ reply-is .0)) $
           returns ! (look ! 27 refl) $ forget ! 9 refl $ forget ! 15 refl $ forget ! 17 refl $ forget ! 19 refl $ forget ! 21 refl $ forget ! 23 refl $ forget ! 25 refl $ forget ! 27 refl $
           move ! (27 ∷ 28 ∷ []) $ free1 ! $ move ! (25 ∷ 26 ∷ []) $ free1 ! $ move ! (23 ∷ 24 ∷ []) $ free1 ! $ move ! (21 ∷ 22 ∷ []) $ free1 ! $ move ! (19 ∷ 20 ∷ []) $ free1 ! $ move ! (17 ∷ 18 ∷ []) $ free1 ! $
@@ -295,15 +323,14 @@ module _ {M : Type 1} (𝓤 : URA M) (H : Heap 𝓤) (A : Atoms 𝓤) (W : Given
       -- what is had once the plan is in its local
       abbrev Planned : List (Item 𝓤)
       Planned = ‵ (row T.the-row fullShare list b o) ∷ (‵ (flft κ q) ⊛ ‵ ftrue) ∷ ‵ Own
-          ∷ ‵ (froom tyPtr l₁₁ 0) ∷ ‵ (fdies tyPtr l₁₁) ∷ ‵ (froom word l₁₀ 0) ∷ ‵ (fdies word l₁₀) ∷ ‵ (froom tyBool l₉ 0) ∷ ‵ (fdies tyBool l₉) ∷ ‵ (fat fullShare word l₈ 0 (vint w64 (length list))) ∷ ‵ (fdies word l₈)
-          ∷ ‵ (froom S′.mir l₇ 0) ∷ ‵ (fdies S′.mir l₇) ∷ ‵ (froom word l₆ 0) ∷ ‵ (fdies word l₆) ∷ ‵ (froom word l₅ 0) ∷ ‵ (fdies word l₅)
-          ∷ ‵ (fat fullShare P′.mir l₄ 0 pv) ∷ ‵ (fdies P′.mir l₄) ∷ ‵ (fat fullShare records l₃ 0 lv) ∷ ‵ (fdies records l₃)
-          ∷ ‵ (fat fullShare B′.mir l₂ 0 wv) ∷ ‵ (fdies B′.mir l₂) ∷ ‵ (fat fullShare bytes l₁ 0 cv) ∷ ‵ (fdies bytes l₁) ∷ ‵ (froom L′.mir l₀ 0) ∷ ‵ (fdies L′.mir l₀)
-          ∷ ‵ (fobor κ′ q′ (Held T.the-row (length list) b o γ)) ∷ ‵ (fobs γ (codedHoleys T.the-row .code (heres T.the-row list))) ∷ ‵ (fauth γ (codedHoleys T.the-row .code (heres T.the-row list))) ∷ []
+          ∷ (Idle ++ (‵ (fat fullShare word l₈ 0 (vint w64 (length list))) ∷ ‵ (fdies word l₈) ∷ ‵ (froom S′.mir l₇ 0) ∷ ‵ (fdies S′.mir l₇)
+          ∷ ‵ (froom word l₆ 0) ∷ ‵ (fdies word l₆) ∷ ‵ (froom word l₅ 0) ∷ ‵ (fdies word l₅) ∷ Fixed))
 
       goes-on : Sq W Planned (runs C Λ En mirs.t-3 (atRet En Post))
       goes-on =
+          -- let mut place = plan.start
           assigns ! (of-opd ! (load ! (from ! (fld ! refl (stop !))) (look-in ! 17 (sub ! 2 refl (whole !))))) (from ! (stop !)) (init ! 15 refl (tt, start-fits)) $
+          -- let mut filled = 0
           assigns ! (of-opd ! (lit ! tt)) (from ! (stop !)) (init ! 13 refl (tt, record { fits = lit< tt })) $ forget ! 9 refl $
           first ! $ blocks ! $ loops ! 𝓣 Nearer Nearer-wf At turns (begins (now container) p list (start-fits .fits))
 
@@ -314,6 +341,7 @@ module _ {M : Type 1} (𝓤 : URA M) (H : Heap 𝓤) (A : Atoms 𝓤) (W : Given
       enter ! (𝓣 .C) (𝓣 .Λ) code.function (cv ∷ wv ∷ lv ∷ []) _ $
       alloc1 ! (λ l₀. alloc1 ! (λ l₁. alloc1 ! (λ l₂. alloc1 ! (λ l₃. alloc1 ! (λ l₄. alloc1 ! (λ l₅. alloc1 ! (λ l₆. alloc1 ! (λ l₇. alloc1 ! (λ l₈. alloc1 ! (λ l₉. alloc1 ! (λ l₁₀. alloc1 ! (λ l₁₁. alloc0 ! $ params1 ! $
       pass1 ! (init ! 20 refl (tt, (tt, (record { fits = c-room .0 }, tt)))) $ pass1 ! (init ! 18 refl (LL.lawful B.the-type B′.the-laws 𝓤 H A W .typed wish _ wish-is .0)) $ pass1 ! (init ! 16 refl (tt, (tt, (record { fits = room .0 }, tt)))) $ pass0 ! $
+      -- list.len()
       assigns ! (of-opd ! (load ! (from ! (fld ! refl (stop !))) (look-in ! 16 (sub ! 1 refl (whole !))))) (from ! (stop !)) (init ! 6 refl (tt, record { fits = room .0 })) $
       -- the borrow is opened
       move ! (25 ∷ []) $ fsplit ! $ move ! (1 ∷ []) $ fsplit ! $ drop ! $ fsplit ! $ fsplit ! $ drop ! $ fsplit ! $
@@ -322,7 +350,7 @@ module _ {M : Type 1} (𝓤 : URA M) (H : Heap 𝓤) (A : Atoms 𝓤) (W : Given
       -- [the row; the open borrow; obs; auth; true; the container's token; true; what the container owns; 8 _11; …]
       move ! (5 ∷ 4 ∷ []) $ join ! $
       keep ! (1 ∷ 0 ∷ 6 ∷ 7 ∷ 8 ∷ 9 ∷ 10 ∷ 11 ∷ 12 ∷ 13 ∷ 14 ∷ 15 ∷ 16 ∷ 17 ∷ 18 ∷ 19 ∷ 20 ∷ 21 ∷ 22 ∷ 23 ∷ 24 ∷ 25 ∷ 26 ∷ 27 ∷ 28 ∷ 29 ∷ 30 ∷ 2 ∷ 3 ∷ 4 ∷ []) $
-      -- the plan
+      -- let plan = list::list_plan(container, reading, list.len())
       move ! (2 ∷ []) $ use1 W (‵ Own ⊛ ‵ Own) (shr-slice-copy 𝓤 H A W (named 0) κ u8 .twice container (cv ∷ [])) $ split ! $ move ! (3 ∷ 0 ∷ []) $
       use2 W (raw (ListPlan 𝓤 H A mem run .pre to-plan)) (asked-plan wish-is (room .0)) $
       calls-at ! (fmOf 𝓤 H (W .laws) 𝓣) (ListPlan 𝓤 H A mem run) known-plan to-plan (and-then ! (load ! (from ! (stop !)) (look ! 23 refl)) (and-then ! (load ! (from ! (stop !)) (look ! 21 refl)) (and-then ! (load ! (from ! (stop !)) (look ! 9 refl)) (no-more !)))) (λ u.
