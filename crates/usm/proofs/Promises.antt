@@ -7,7 +7,6 @@ use Rattle.laws.proofs.OneAnswer.{no-second-answer}
 use Rattle.extract.specs.declared.Extracted.{Extracted}
 use Rattle.extract.specs.declared.Extracted.the-variants as extracted
 use Rattle.extract.specs.Extraction.{extractedOf, leftBy}
-use Rattle.replies.specs.declared.FilmReply.{FilmReply}
 use Rattle.replies.specs.FilmReplies.{filmReply}
 use Rattle.usm.specs.Promises as promised
 

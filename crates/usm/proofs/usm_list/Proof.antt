@@ -45,7 +45,7 @@ use denote.RattleType.{owns}
 use denote.Shadow.{pureI}
 use denote.Laws.{Is, shows}
 use denote.Memory.{pointee}
-use denote.Plain.{uint-makes, uint-vals, uint-tells}
+use denote.Plain.{uint-makes}
 use denote.Builtin.{u8, usize}
 use denote.Ref.{RefT, now}
 use denote.Slice.{sliceTy, sliceVal, ShrSlice, MutSlice, Room, heres, codedHoleys, at-slice, slice-vals, mut-slice-tells, shr-slice-tells, shr-slice-copy}
@@ -77,7 +77,6 @@ use Rattle.list.specs.declared.Plan.{Plan}
 use Rattle.list.specs.Listing.{listedOf, recordsOf, filledBy}
 use Rattle.list.specs.Filling.{stepAt}
 use Rattle.list.proofs.FillLaws.{fillBy, Stored, begins, turned, ended, planned, plan-few, plan-leaves}
-use Rattle.list.specs.declared.ListReply.{ListReply}
 use Rattle.list.proofs.ListReply as L
 use Rattle.list.proofs.ListReply.Laws as L′
 use Rattle.list.proofs.Plan as P
