@@ -9,6 +9,7 @@ use lib.Dec.{ltb}
 use borrow.Author.Tests.{ltb-false}
 use Rattle.refusal.specs.declared.Cause.the-variants.{TooLong}
 use Rattle.reading.specs.declared.AudioChoice.the-variants.{Chosen}
+use Rattle.reading.specs.declared.TableMode.the-variants.{Original}
 use Rattle.reading.specs.declared.Reading.{Reading}
 use Rattle.reading.specs.declared.Applied.{Applied}
 use Rattle.reading.specs.Choices.{appliedTo}
@@ -41,12 +42,12 @@ module _ (container : List ℕ) (reading : Reading) (limit : length container �
 
   of-film : length (filmText (filmOf container reading)) ≤ 65536
   unfolding filmOf
-  of-film = after (headerOf container (record { audio = Chosen }))
+  of-film = after (headerOf container (record { audio = Chosen; tables = Original }))
 
 by-length : (container : List ℕ) (t : Bool) → ltb 16384 (length container) ≡ t
-    → length (cond t (refusalLine (record { cause = TooLong; place = 0 })) (filmText (filmOf container (record { audio = Chosen })))) ≤ 65536
+    → length (cond t (refusalLine (record { cause = TooLong; place = 0 })) (filmText (filmOf container (record { audio = Chosen; tables = Original })))) ≤ 65536
 by-length container true e = omega (arith, refusal-short (record { cause = TooLong; place = 0 }))
-by-length container false e = of-film container (record { audio = Chosen }) (ltb-false 16384 (length container) e)
+by-length container false e = of-film container (record { audio = Chosen; tables = Original }) (ltb-false 16384 (length container) e)
 
 pub TextFits : promised.TextFits
 unfolding textOf

@@ -8,6 +8,7 @@ use Rattle.refusal.specs.declared.Cause.the-variants.{TooLong}
 use Rattle.refusal.specs.declared.Refusal.{Refusal}
 use Rattle.refusal.specs.Numbers.{numberOf}
 use Rattle.reading.specs.declared.AudioChoice.the-variants.{Chosen}
+use Rattle.reading.specs.declared.TableMode.the-variants.{Original}
 use Rattle.chunk.specs.declared.Kind.{Kind}
 use Rattle.chunk.specs.declared.Kind.the-variants.{Video, Audio, Other, End}
 use Rattle.chunk.specs.declared.Chunk.{Chunk}
@@ -60,4 +61,4 @@ filmText (refused refusal) = refusalLine refusal
 unfoldable pub textOf : List ℕ → List ℕ
 textOf container =
     cond (ltb 16384 (length container)) (refusalLine (record { cause = TooLong; place = 0 }))
-    (filmText (filmOf container (record { audio = Chosen })))
+    (filmText (filmOf container (record { audio = Chosen; tables = Original })))

@@ -14,6 +14,7 @@ use film::Surveyed;
 use reading::Applied;
 use reading::AudioChoice;
 use reading::Reading;
+use reading::TableMode;
 use refusal::Cause;
 use refusal::Refusal;
 
@@ -109,6 +110,7 @@ pub fn lines(container: &[u8], out: &mut [u8]) -> usize
     }
     let reading = Reading {
         audio: AudioChoice::Chosen,
+        tables: TableMode::Original,
     };
     match film::survey(container, reading) {
         Surveyed::Film {

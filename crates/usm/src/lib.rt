@@ -3,7 +3,7 @@
 ghost use mathlib.Core.Path.{_≡_};
 ghost use Rattle.table.specs.Tables.{tableAt};
 ghost use Rattle.lookup.specs.Lookups.{cellOf};
-ghost use Rattle.reading.specs.Choices.{readingBy};
+ghost use Rattle.reading.specs.Choices.{readingBy, modeBy};
 ghost use Rattle.unmasking.specs.Unmasking.{keyBy};
 ghost use Rattle.list.specs.Listing.{Listing};
 ghost use Rattle.replies.specs.TableReplies.{tableReply, cellReply};
@@ -24,18 +24,26 @@ pub struct KeyBytes {
 
 // The table at a place of a slice.
 #[no_mangle]
-pub extern "C" fn usm_table(bytes: &[u8], place: usize) -> TableReply
-    ensures { λ r. ⌜ r ≡ tableReply (tableAt (now (bytes .entry)) place) ⌝ }
+pub extern "C" fn usm_table(bytes: &[u8], place: usize, reading: ReadingBytes) -> TableReply
+    ensures { λ r. ⌜ r ≡ tableReply (tableAt (now (bytes .entry)) place (modeBy (reading .tables))) ⌝ }
 {
-    replies::table_reply(table::read_table(bytes, place))
+    let mode = reading::mode_by(reading.tables);
+    replies::table_reply(table::read_table(bytes, place, mode))
 }
 
 // The cell of the last column of a name, in a row of the table at a place of a slice.
 #[no_mangle]
-pub extern "C" fn usm_cell(bytes: &[u8], place: usize, name: &[u8], row: usize) -> CellReply
-    ensures { λ r. ⌜ r ≡ cellReply (cellOf (now (bytes .entry)) place (now (name .entry)) row) ⌝ }
+pub extern "C" fn usm_cell(
+    bytes: &[u8],
+    place: usize,
+    name: &[u8],
+    row: usize,
+    reading: ReadingBytes,
+) -> CellReply
+    ensures { λ r. ⌜ r ≡ cellReply (cellOf (now (bytes .entry)) place (modeBy (reading .tables)) (now (name .entry)) row) ⌝ }
 {
-    replies::cell_reply(lookup::cell_of(bytes, place, name, row))
+    let mode = reading::mode_by(reading.tables);
+    replies::cell_reply(lookup::cell_of(bytes, place, mode, name, row))
 }
 
 // Both streams of a film, and what it holds.
