@@ -47,6 +47,9 @@ enum-known-cause-3 c = search needs
 enum-told-11 : tie.Need-enum-told-11
 enum-told-11 c = search needs
 
+enum-told-12 : tie.Need-enum-told-12
+enum-told-12 c = search needs
+
 returns : tie.Need-returns
 returns c = sym (ap besideOf (c .enum-told .given .1))
 
@@ -89,6 +92,9 @@ returns-13 c = sym (ap besideOf (c .before .cause3 .given .1))
 returns-14 : tie.Need-returns-14
 returns-14 c = sym (ap besideOf (c .enum-told11 .given .1))
 
+returns-15 : tie.Need-returns-15
+returns-15 c = sym (ap besideOf (c .enum-told12 .given .1))
+
 pub beside-of-spec : {M : Type 1} → statement M
 beside-of-spec =
     tie.close
@@ -107,6 +113,7 @@ beside-of-spec =
     enum-known-cause-2
     enum-known-cause-3
     enum-told-11
+    enum-told-12
     returns
     returns-2
     returns-3
@@ -120,4 +127,5 @@ beside-of-spec =
     returns-11
     returns-12
     returns-13
-    returns-14)
+    returns-14
+    returns-15)
