@@ -20,7 +20,7 @@ static const uint8_t TABLE[] = {
 
 static void print_cell(const char *name, size_t row)
 {
-    struct usm_cell_reply cell = usm_cell(TABLE, sizeof TABLE, 0, (const uint8_t *)name, strlen(name), row);
+    struct usm_cell_reply cell = usm_cell(TABLE, sizeof TABLE, 0, (const uint8_t *)name, strlen(name), row, USM_READ_WITH_AUDIO);
 
     printf("%s, row %zu: ", name, row);
     if (cell.kind == USM_CELL_SIGNED)
@@ -33,7 +33,7 @@ static void print_cell(const char *name, size_t row)
 
 static void print_table(const char *what, const uint8_t *bytes, size_t len)
 {
-    struct usm_table_reply table = usm_table(bytes, len, 0);
+    struct usm_table_reply table = usm_table(bytes, len, 0, USM_READ_WITH_AUDIO);
 
     if (table.number == USM_ACCEPTED)
         printf("%s: %zu columns, %zu rows\n", what, table.columns, table.rows);

@@ -61,18 +61,18 @@ static void mask_audio(size_t lacks)
 
 static void table(size_t lacks)
 {
-    usm_table(film_of(TABLE, sizeof TABLE, lacks), sizeof TABLE, 0);
+    usm_table(film_of(TABLE, sizeof TABLE, lacks), sizeof TABLE, 0, USM_READ_WITH_AUDIO);
 }
 
 static void cell(size_t lacks)
 {
-    usm_cell(film_of(TABLE, sizeof TABLE, lacks), sizeof TABLE, 0, (const uint8_t *)"id", 2, 0);
+    usm_cell(film_of(TABLE, sizeof TABLE, lacks), sizeof TABLE, 0, (const uint8_t *)"id", 2, 0, USM_READ_WITH_AUDIO);
 }
 
 static void cell_name(size_t lacks)
 {
     usm_cell(film_of(TABLE, sizeof TABLE, 0), sizeof TABLE, 0,
-             lend_bytes(&second_read_only, ENDS, (const uint8_t *)"id", 2 - lacks), 2, 0);
+             lend_bytes(&second_read_only, ENDS, (const uint8_t *)"id", 2 - lacks), 2, 0, USM_READ_WITH_AUDIO);
 }
 
 /* Extracts the song; the film, the video output or the audio output is too long. */

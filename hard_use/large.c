@@ -140,12 +140,12 @@ static void call_list(struct call *c)
 /* The table of a film's first block, and the name that it has. */
 static void call_table(struct call *c)
 {
-    c->number = usm_table(c->film, c->len, 32).number;
+    c->number = usm_table(c->film, c->len, 32, USM_READ_WITH_AUDIO).number;
 }
 
 static void call_cell(struct call *c)
 {
-    c->number = usm_cell(c->film, c->len, 32, (const uint8_t *)"filename", 8, 0).number;
+    c->number = usm_cell(c->film, c->len, 32, (const uint8_t *)"filename", 8, 0, USM_READ_WITH_AUDIO).number;
 }
 
 static void call_key_table(struct call *c)

@@ -141,6 +141,12 @@ static uint8_t choice_by_chance(void)
     return once_in(&chance, 3) ? 0 : once_in(&chance, 4) ? (uint8_t)any(&chance) : 1;
 }
 
+/* A table mode: mostly one of the two that have a name. */
+static uint8_t tables_by_chance(void)
+{
+    return once_in(&chance, 8) ? (uint8_t)any(&chance) : (uint8_t)below(&chance, 2);
+}
+
 static uint64_t key_by_chance(void)
 {
     return once_in(&chance, 8) ? 0 : once_in(&chance, 8) ? UINT64_MAX : any(&chance);
@@ -194,6 +200,12 @@ static int is_type_of(uint8_t number, uint8_t type)
     return number == USM_UNKNOWN_TYPE ? type == 7 || type == 9 || (type >= 12 && type <= 15) : type == 0;
 }
 
+/* What a header may be refused with, as it is read. */
+static int is_table_number(uint8_t number, struct usm_reading how)
+{
+    return number <= USM_TOO_MANY || (number == USM_UNKNOWN_STORAGE && how.tables == USM_TABLES_ZERO_COLUMNS);
+}
+
 /* The first call: outputs without bytes. */
 static void ask_for_sizes(struct reading *reading)
 {
@@ -213,7 +225,7 @@ static void ask_for_sizes(struct reading *reading)
         reading->number = reply.number;
         reading->place = reply.refused_at;
         reading->unknown_type = reply.unknown_type;
-        EXPECT(reply.number >= USM_RAN_OUT && reply.number <= USM_TOO_MANY);
+        EXPECT(is_table_number(reply.number, reading->how));
         EXPECT(reply.number != USM_NO_FILM || reply.refused_at == 0);
         EXPECT(is_type_of(reply.number, reply.unknown_type));
         expect_refusal(&x, reply.number, reply.refused_at, 0, 0, reply.unknown_type);
@@ -343,7 +355,7 @@ static void try_film(void)
     reading.how.audio = choice_by_chance();
     reading.how.channel = (uint8_t)any(&chance);
     reading.how.payloads = (uint8_t)any(&chance);
-    reading.how.tables = (uint8_t)any(&chance);
+    reading.how.tables = tables_by_chance();
     reading.key.number = key_by_chance();
     reading.key.given = choice_by_chance();
 
@@ -364,14 +376,14 @@ static void try_film(void)
 }
 
 /* Reads a table; gives its reply. */
-static struct usm_table_reply try_table(const uint8_t *bytes, size_t place)
+static struct usm_table_reply try_table(const uint8_t *bytes, size_t place, struct usm_reading how)
 {
     struct usm_table_reply reply;
 
     calling(TABLE);
-    reply = usm_table(bytes, made.len, place);
+    reply = usm_table(bytes, made.len, place, how);
     answered(reply.number);
-    EXPECT(reply.number <= USM_TOO_MANY && is_type_of(reply.number, reply.unknown_type));
+    EXPECT(is_table_number(reply.number, how) && is_type_of(reply.number, reply.unknown_type));
     EXPECT(reply.refused_at == (reply.number == USM_ACCEPTED ? 0 : place));
     EXPECT(reply.columns <= 64 && reply.rows <= 256);
     EXPECT(reply.number == USM_ACCEPTED || (reply.columns == 0 && reply.rows == 0));
@@ -379,7 +391,7 @@ static struct usm_table_reply try_table(const uint8_t *bytes, size_t place)
 }
 
 /* Asks for one cell of a table that has this reply. */
-static void try_cell(const uint8_t *bytes, size_t place, struct usm_table_reply table)
+static void try_cell(const uint8_t *bytes, size_t place, struct usm_reading how, struct usm_table_reply table)
 {
     static const char *const NAMES[] = {"filename", "mpeg_codec", "audio_codec", "", "id", "a film.usm", "i", "idx"};
     const char *asked = NAMES[below(&chance, sizeof NAMES / sizeof NAMES[0])];
@@ -388,7 +400,7 @@ static void try_cell(const uint8_t *bytes, size_t place, struct usm_table_reply 
     struct usm_cell_reply cell;
 
     calling(CELL);
-    cell = usm_cell(bytes, made.len, place, name, name_len, row);
+    cell = usm_cell(bytes, made.len, place, name, name_len, row, how);
     answered(cell.number);
     EXPECT(cell.number == table.number && cell.refused_at == table.refused_at);
     EXPECT(cell.unknown_type == table.unknown_type && cell.kind <= USM_CELL_DATA);
@@ -401,11 +413,12 @@ static void try_tables(void)
 {
     size_t place = make_any_table(&made, &chance);
     const uint8_t *bytes = lend_bytes(&films, case_edge, made.bytes, made.len);
-    struct usm_table_reply table = try_table(bytes, place);
+    struct usm_reading how = {choice_by_chance(), 0, 0, tables_by_chance()};
+    struct usm_table_reply table = try_table(bytes, place, how);
     int i;
 
     for (i = 0; i < 3; i++)
-        try_cell(bytes, place, table);
+        try_cell(bytes, place, how, table);
     EXPECT(memcmp(bytes, made.bytes, made.len) == 0);
 }
 

@@ -65,7 +65,7 @@ void usm_mask_audio(uint64_t key, uint8_t *payload, size_t len);
  * Replies. Every function below returns its reply, a struct by value that has a name for each thing.
  * Three fields are in all of them:
  *
- *     number        0 where the answer is accepted, 1 to 14 where it is refused, as follows
+ *     number        0 where the answer is accepted, another where it is refused, as follows
  *     refused_at    the place that is refused: in a film the start of the block or chunk being read,
  *                   which may lie past the container's end, and 0 beside 2 and 11 to 14; for a table
  *                   that is read by itself, the table's own
@@ -89,10 +89,40 @@ void usm_mask_audio(uint64_t key, uint8_t *payload, size_t len);
 #define USM_SHORT_OUTPUT 12   /* the video or the audio output is too short */
 #define USM_SHORT_LIST 13     /* the chunk list is too short */
 #define USM_OVERSIZED 14      /* both streams together exceed the container: it cannot occur (proved) */
+#define USM_UNKNOWN_STORAGE 18 /* a column's high nibble is none of 1, 3, 5 and 7, where these are the only ones */
+
+/*
+ * How a film or a table is read. 4 bytes.
+ *
+ *     audio     0: audio is not taken. Its payloads are skipped, unchecked, so a film may be accepted
+ *               without audio and refused with it. Every other number: all audio is taken. Tables that
+ *               are read by themselves do not look at it
+ *     tables    USM_TABLES_ZERO_COLUMNS: a column whose type byte has the high nibble 1 stores nothing;
+ *               its numbers and floats are 0, its strings and data empty. 1, 3, 5 and 7 are the only
+ *               high nibbles, and another is USM_UNKNOWN_STORAGE. Every other number: as the original
+ *               reads them, where such a column has a value in each row
+ *     channel, payloads
+ *               room for choices to come. Today no number of theirs changes anything; 0 will go on
+ *               to mean what happens today
+ */
+struct usm_reading {
+    uint8_t audio;
+    uint8_t channel;
+    uint8_t payloads;
+    uint8_t tables;
+};
+
+/* The two ways to read tables. */
+#define USM_TABLES_ORIGINAL 0
+#define USM_TABLES_ZERO_COLUMNS 1
+
+/* Ready readings: tables as the original reads them, with audio and without. */
+static const struct usm_reading USM_READ_WITH_AUDIO = {1, 0, 0, USM_TABLES_ORIGINAL};
+static const struct usm_reading USM_READ_VIDEO_ONLY = {0, 0, 0, USM_TABLES_ORIGINAL};
 
 /*
  * @UTF tables. The table begins at byte `place` of the `len` bytes at `bytes`. Of the numbers they
- * give 0, 1, 3, 8, 9 and 10.
+ * give 0, 1, 3, 8, 9, 10 and 18.
  */
 
 /* The reply on a table. 32 bytes. */
@@ -105,7 +135,8 @@ struct usm_table_reply {
 };
 
 /* Reads and checks the whole table. */
-struct usm_table_reply usm_table(const uint8_t *bytes, size_t len, size_t place);
+struct usm_table_reply usm_table(const uint8_t *bytes, size_t len, size_t place,
+                                 struct usm_reading reading);
 
 /* The reply on a cell. 32 bytes. */
 struct usm_cell_reply {
@@ -130,7 +161,7 @@ struct usm_cell_reply {
  * 0; nothing where no column has the name or the table has no such row.
  */
 struct usm_cell_reply usm_cell(const uint8_t *bytes, size_t len, size_t place, const uint8_t *name,
-                               size_t name_len, size_t row);
+                               size_t name_len, size_t row, struct usm_reading reading);
 
 /*
  * Films. The container is the `len` bytes at `container`, a whole USM file, and is never written.
@@ -140,26 +171,6 @@ struct usm_cell_reply usm_cell(const uint8_t *bytes, size_t len, size_t place, c
 
 /* The longest container that is read. */
 #define USM_CONTAINER_BYTES 1073741824
-
-/*
- * How a film is read. 4 bytes.
- *
- *     audio     0: audio is not taken. Its payloads are skipped, unchecked, so a film may be accepted
- *               without audio and refused with it. Every other number: all audio is taken
- *     channel, payloads, tables
- *               room for choices to come. Today no number of theirs changes anything; 0 will go on
- *               to mean what happens today
- */
-struct usm_reading {
-    uint8_t audio;
-    uint8_t channel;
-    uint8_t payloads;
-    uint8_t tables;
-};
-
-/* The two readings that there are. */
-static const struct usm_reading USM_READ_WITH_AUDIO = {1, 0, 0, 0};
-static const struct usm_reading USM_READ_VIDEO_ONLY = {0, 0, 0, 0};
 
 /*
  * A key, or none. 16 bytes.

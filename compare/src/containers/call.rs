@@ -27,7 +27,7 @@ const EVERY: usize = 2 * KEYS.len() * FALLBACKS.len() * ROOMS.len() * ROOMS.len(
 pub struct Call {
     /// Audio is taken, where it is not 0.
     pub audio: u8,
-    /// The fields of the reading that are not looked at.
+    /// Channel, payloads and tables of the reading. The first two are not looked at; of the third 1 is, and is given as 0.
     pub unread: [u8; 3],
     /// The key counts, where it is not 0.
     pub keyed: u8,
@@ -152,7 +152,8 @@ impl Call {
     }
 
     pub fn reading(&self) -> ReadingBytes {
-        ReadingBytes { audio: self.audio, unread: self.unread }
+        let [channel, payloads, tables] = self.unread;
+        ReadingBytes { audio: self.audio, unread: [channel, payloads], tables: if tables == 1 { 0 } else { tables } }
     }
 
     /// The same call as the export takes it; and once more where bits that do not count are turned.

@@ -10,8 +10,10 @@ use super::answer::{Chunk, Kind, Refusal, Tracks};
 pub struct ReadingBytes {
     /// Audio is taken, where it is not 0.
     pub audio: u8,
-    /// Not looked at: channel, payloads and tables of usm.h.
-    pub unread: [u8; 3],
+    /// Not looked at: channel and payloads of usm.h.
+    pub unread: [u8; 2],
+    /// Zero columns take no room where it is 1; else tables are read as the original does.
+    pub tables: u8,
 }
 
 #[repr(C)]
@@ -125,7 +127,7 @@ pub fn list(container: &[u8], reading: ReadingBytes, list: &mut [Record]) -> Lis
 
 /// The numbers of both with NULL for every slice of length 0, which usm.h allows.
 pub fn both_with_null() -> [u8; 2] {
-    let (reading, key) = (ReadingBytes { audio: 1, unread: [0; 3] }, KeyBytes { number: 0, given: 1 });
+    let (reading, key) = (ReadingBytes { audio: 1, unread: [0; 2], tables: 0 }, KeyBytes { number: 0, given: 1 });
     // SAFETY: nothing is read or written through a pointer with length 0.
     unsafe {
         [

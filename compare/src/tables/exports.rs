@@ -2,6 +2,9 @@
 
 use std::ptr::null;
 
+use crate::containers::exports::ReadingBytes;
+use crate::containers::timing::WITH_AUDIO;
+
 #[repr(C)]
 #[derive(Clone, Copy, Default, PartialEq, Eq, Debug)]
 pub struct TableReply {
@@ -25,7 +28,7 @@ pub struct CellReply {
 
 #[link(name = "usm", kind = "static")]
 unsafe extern "C" {
-    fn usm_table(bytes: *const u8, len: usize, place: usize) -> TableReply;
+    fn usm_table(bytes: *const u8, len: usize, place: usize, reading: ReadingBytes) -> TableReply;
     fn usm_cell(
         bytes: *const u8,
         len: usize,
@@ -33,21 +36,22 @@ unsafe extern "C" {
         name: *const u8,
         name_len: usize,
         row: usize,
+        reading: ReadingBytes,
     ) -> CellReply;
 }
 
 // SAFETY, for the two calls below: each pointer and length are those of one slice lent to this call.
 
 pub fn table(bytes: &[u8], place: usize) -> TableReply {
-    unsafe { usm_table(bytes.as_ptr(), bytes.len(), place) }
+    unsafe { usm_table(bytes.as_ptr(), bytes.len(), place, WITH_AUDIO) }
 }
 
 pub fn cell(bytes: &[u8], place: usize, name: &[u8], row: usize) -> CellReply {
-    unsafe { usm_cell(bytes.as_ptr(), bytes.len(), place, name.as_ptr(), name.len(), row) }
+    unsafe { usm_cell(bytes.as_ptr(), bytes.len(), place, name.as_ptr(), name.len(), row, WITH_AUDIO) }
 }
 
 /// The numbers of both with NULL for every slice of length 0, which usm.h allows.
 pub fn both_with_null(place: usize) -> [u8; 2] {
     // SAFETY: nothing is read through a pointer with length 0.
-    unsafe { [usm_table(null(), 0, place).number, usm_cell(null(), 0, place, null(), 0, 0).number] }
+    unsafe { [usm_table(null(), 0, place, WITH_AUDIO).number, usm_cell(null(), 0, place, null(), 0, 0, WITH_AUDIO).number] }
 }
