@@ -39,26 +39,38 @@ extern "C" {
 
 /*
  * Puts the tables of `key` into the first 96 bytes of `table`: T at 0, V at 32, A at 64. Returns 96;
- * bytes past them are unchanged. Where `len` is below 96 it returns 0, and the buffer is unchanged.
+ * bytes past them are unchanged. Where `len` is below 96 it returns 0, and the buffer is unchanged. It
+ * needs 217 bytes of stack below its call.
  */
 size_t usm_key_table(uint64_t key, uint8_t *table, size_t len);
 
 /*
  * Unmasks the video payload of `len` bytes at `payload`. Below 0x240 bytes it is unchanged. From
- * there on the bytes below 0x40 are unchanged, and all others are unmasked.
+ * there on the bytes below 0x40 are unchanged, and all others are unmasked. It needs 233 bytes of stack
+ * below its call, return address and callees included; 136 once the key table is made. This and the
+ * figures of the other four are measured on the library (kit rattle-kit-5b) by hard_use/stack.c: the
+ * deepest that calls with several keys and lengths went on a painted stack, tried again on just so many
+ * bytes.
  */
 void usm_unmask_video(uint64_t key, uint8_t *payload, size_t len);
 
-/* Masks a clear video payload: the reverse of usm_unmask_video. Each undoes the other (proved). */
+/*
+ * Masks a clear video payload: the reverse of usm_unmask_video. Each undoes the other (proved). It needs
+ * 297 bytes of stack below its call.
+ */
 void usm_mask_video(uint64_t key, uint8_t *payload, size_t len);
 
 /*
  * Unmasks the ADX audio payload of `len` bytes at `payload`. The bytes below 0x140 are unchanged, and
- * so is a payload of 0x140 bytes or less; all others are XORed with A, repeating.
+ * so is a payload of 0x140 bytes or less; all others are XORed with A, repeating. It needs 233 bytes of
+ * stack below its call.
  */
 void usm_unmask_audio(uint64_t key, uint8_t *payload, size_t len);
 
-/* Masks a clear ADX audio payload: the same act as usm_unmask_audio. Each undoes the other (proved). */
+/*
+ * Masks a clear ADX audio payload: the same act as usm_unmask_audio. Each undoes the other (proved). It
+ * needs 233 bytes of stack below its call.
+ */
 void usm_mask_audio(uint64_t key, uint8_t *payload, size_t len);
 
 /*
