@@ -118,7 +118,7 @@ pub video-length : (keys : Keys) (s : List ℕ) → length (unmaskedVideo keys s
 unfolding unmaskedVideo
 video-length keys s =
     ⊎-elim (λ b. rw (lt-ltb (length s) 0x240 b))
-    (λ b. rw (le-ltb (length s) 0x240 b) (head-length (keys .t) (clearTail (keys .v) s) ∙ tail-length (clear (keys .v) s) s))
+    (λ b. rw (le-ltb (length s) 0x240 b) (simp (head-length, tail-length)))
     (side (length s) 0x240)
 
 module _ (t s : List ℕ) (long : 0x240 ≤ length s) where

@@ -210,10 +210,10 @@ pub fn unmask_video(payload: &mut [u8], keys: Keys)
     if payload.len() < SHORTEST_VIDEO {
         return;
     }
-    let t = keys.t;
+    let first_mask = keys.t;
     // V is lent, so that no second copy of it is made.
     clear_tail(payload, &keys.v);
-    xor_head(payload, t);
+    xor_head(payload, first_mask);
 }
 
 // Masks a video payload in place: the head first, while the tail is clear. The Rust's `apply_video_mask`.

@@ -7,6 +7,8 @@ use Rattle.laws.specs.Lists.{tab, at}
 use Rattle.key.specs.KeyTable.{tableT, keysOf}
 use Rattle.mask.specs.Video.{unmaskedVideo}
 use Rattle.mask.specs.Audio.{maskedAudio}
+use Rattle.reading.specs.declared.TableMode.the-variants.{Original}
+use Rattle.layout.specs.declared.Layout.{Layout}
 use Rattle.cell.specs.declared.CellAnswer.{CellAnswer}
 use Rattle.cell.specs.declared.CellAnswer.the-variants.{Got, Refused}
 use Rattle.cell.specs.Cells.{cellAt}
@@ -35,9 +37,13 @@ abbrev pub codecRead : CellAnswer → Codec
 codecRead (Got cell) = codecOf cell
 codecRead (Refused cause) = Absent
 
+-- a table without strings and data
+abbrev pub plain : Layout
+plain = record { size = 0; columns = 0; rows = 0; start = 0; strings = 0; blobs = 0; mode = Original }
+
 -- the codec of the cell of a type that stands at the start of a body
 abbrev pub codecIn : List ℕ → ℕ → Codec
-codecIn body type = codecRead (cellAt body type 0 0 0)
+codecIn body type = codecRead (cellAt body type 0 plain)
 
 -- a codec's number and the number of the video kind that follows
 abbrev pub numbersOf : Codec → List ℕ

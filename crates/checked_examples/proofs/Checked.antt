@@ -5,7 +5,7 @@ use Rattle.key.specs.KeyTable.{tableBy, tableT, tableV, tableA, keysOf}
 use Rattle.mask.specs.Video.{clear, withTailAt, withTail, headMask, xoredHeadAt, xoredHead, unmaskedVideo}
 use Rattle.mask.specs.Audio.{audioAt, maskedAudio}
 use Rattle.cell.specs.Cells.{valueAt, cellAt}
-use Rattle.examples.specs.Table.{examples, AllHold}
+use Rattle.checked_examples.specs.Table.{examples, AllHold}
 
 pub examples-hold : AllHold examples
 unfolding examples AllHold tab tableBy tableT tableV tableA keysOf clear withTailAt withTail headMask xoredHeadAt xoredHead unmaskedVideo audioAt maskedAudio valueAt cellAt
