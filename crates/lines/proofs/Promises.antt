@@ -42,7 +42,7 @@ module _ (container : List ℕ) (reading : Reading) (limit : length container �
 
   of-film : length (filmText (filmOf container reading)) ≤ 65536
   unfolding filmOf
-  of-film = after (headerOf container (record { audio = Chosen; tables = Original }))
+  of-film = after (headerOf container reading)
 
 by-length : (container : List ℕ) (t : Bool) → ltb 16384 (length container) ≡ t
     → length (cond t (refusalLine (record { cause = TooLong; place = 0 })) (filmText (filmOf container (record { audio = Chosen; tables = Original })))) ≤ 65536
