@@ -8,32 +8,34 @@ use lib.ListN.{length}
 use borrow.Author.Tests.{eq-eqb, ne-eqb, lt-ltb, le-ltb}
 use Rattle.refusal.specs.declared.Cause.the-variants.{RanOut, TooSmall}
 use Rattle.reading.specs.declared.Applied.{Applied}
-use Rattle.signature.specs.Signatures.{SFV, SFA}
+use Rattle.word.specs.Numbers.{be32}
+use Rattle.signature.specs.Signatures.{SFV, SFA, contentsEnd, standsAt}
 use Rattle.chunk.specs.declared.Kind.the-variants.{Video, Audio, Other, End}
 use Rattle.chunk.specs.declared.Opening.{Opening}
 use Rattle.chunk.specs.declared.Chunk.{Chunk}
 use Rattle.chunk.specs.declared.ChunkStep.the-variants.{Over, Found}
-use Rattle.chunk.specs.Openings.{openingAt}
-use Rattle.chunk.specs.Chunks.{kindOf, isTaken, chunkOf, refusedAt, presentIn, takenAt, openedAt, chunkAt}
+use Rattle.chunk.specs.Openings.{kindAt, openingAt}
+use Rattle.chunk.specs.Chunks.{isTaken, chunkOf, refusedAt, presentIn, takenAt, openedAt, chunkAt}
 
-module _ (opening : Opening) where
-  pub marked : opening .marked ≡ true → End ≡ kindOf opening
-  unfolding kindOf
+module _ (container : List ℕ) (c : ℕ) where
+  pub marked : standsAt contentsEnd container (c + 0x20) ≡ true → End ≡ kindAt container c
+  unfolding kindAt
   marked e = rw e
 
-  module _ (unmarked : opening .marked ≡ false) where
-    pub video : opening .letters ≡ SFV → Video ≡ kindOf opening
-    unfolding kindOf
-    video e = rw (unmarked, eq-eqb _ _ e)
+  -- the letters as they were read
+  module _ (unmarked : standsAt contentsEnd container (c + 0x20) ≡ false) (letters : ℕ) (read : letters ≡ be32 container c) where
+    pub video : letters ≡ SFV → Video ≡ kindAt container c
+    unfolding kindAt
+    video e = rw (unmarked, ← read, eq-eqb letters SFV e)
 
-    module _ (no-video : opening .letters ≡ SFV → ⊥) where
-      pub audio : opening .letters ≡ SFA → Audio ≡ kindOf opening
-      unfolding kindOf
-      audio e = rw (unmarked, ne-eqb _ _ no-video, eq-eqb _ _ e)
+    module _ (no-video : letters ≡ SFV → ⊥) where
+      pub audio : letters ≡ SFA → Audio ≡ kindAt container c
+      unfolding kindAt
+      audio e = rw (unmarked, ← read, ne-eqb letters SFV no-video, eq-eqb letters SFA e)
 
-      pub other : (opening .letters ≡ SFA → ⊥) → Other ≡ kindOf opening
-      unfolding kindOf
-      other f = rw (unmarked, ne-eqb _ _ no-video, ne-eqb _ _ f)
+      pub other : (letters ≡ SFA → ⊥) → Other ≡ kindAt container c
+      unfolding kindAt
+      other f = rw (unmarked, ← read, ne-eqb letters SFV no-video, ne-eqb letters SFA f)
 
 -- chunk is the one that the opening makes, with the payload that its sizes say
 module _ (container : List ℕ) (c : ℕ) (opening : Opening) where
@@ -54,11 +56,11 @@ module _ (container : List ℕ) (c : ℕ) (opening : Opening) where
     present h = rw (le-ltb _ _ large, ← made, le-ltb _ _ h)
 
 module _ (container : List ℕ) (reading : Applied) (c : ℕ) where
-  pub taken : (opening : Opening) → isTaken reading (kindOf opening) ≡ true → takenAt container c opening ≡ openedAt container reading c opening
+  pub taken : (opening : Opening) → isTaken reading (opening .kind) ≡ true → takenAt container c opening ≡ openedAt container reading c opening
   unfolding openedAt
   taken opening e = rw e
 
-  pub skipped : (opening : Opening) → isTaken reading (kindOf opening) ≡ false → Found (chunkOf c opening 0) ≡ openedAt container reading c opening
+  pub skipped : (opening : Opening) → isTaken reading (opening .kind) ≡ false → Found (chunkOf c opening 0) ≡ openedAt container reading c opening
   unfolding openedAt
   skipped opening e = rw e
 

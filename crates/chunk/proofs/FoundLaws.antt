@@ -16,7 +16,7 @@ use Rattle.chunk.specs.declared.Chunk.{Chunk}
 use Rattle.chunk.specs.declared.ChunkStep.{ChunkStep}
 use Rattle.chunk.specs.declared.ChunkStep.the-variants.{Over, Found}
 use Rattle.chunk.specs.Openings.{openingAt}
-use Rattle.chunk.specs.Chunks.{kindOf, isTaken, chunkOf, refusedAt, presentIn, takenAt, openedAt, chunkAt}
+use Rattle.chunk.specs.Chunks.{isTaken, chunkOf, refusedAt, presentIn, takenAt, openedAt, chunkAt}
 
 pub record Within (container : List ℕ) (c : ℕ) (chunk : Chunk) : Type 0 where
   pub whole : 45 ≤ length container - c
@@ -62,4 +62,4 @@ unfolding chunkAt openedAt openingAt
 found container reading c chunk e =
     let a = not-over (ltb (length container - c) 4) chunk _ e in
     let b = not-refused (ltb (length container - c) 45) c RanOut chunk _ (a .1) in
-    of-either container c chunk (ltb-false (length container - c) 45 (b .0)) (openingAt container c) (omega arith) (isTaken reading (kindOf (openingAt container c))) (b .1)
+    of-either container c chunk (ltb-false (length container - c) 45 (b .0)) (openingAt container c) (omega arith) (isTaken reading (openingAt container c .kind)) (b .1)

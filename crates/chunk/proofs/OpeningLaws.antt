@@ -10,7 +10,7 @@ use Rattle.laws.specs.Lists.{at}
 use Rattle.word.specs.Numbers.{be16, be32}
 use Rattle.part.specs.Parts.{partAt}
 use Rattle.signature.specs.Signatures.{contentsEnd, sameBytes, standsAt}
-use Rattle.chunk.specs.Openings.{openingAt}
+use Rattle.chunk.specs.Openings.{kindAt, openingAt}
 
 -- a part of the first n bytes
 inner : (n k m : ℕ) (bytes : List ℕ) → k + m ≤ n → take m (drop k (take n bytes)) ≡ take m (drop k bytes)
@@ -47,7 +47,10 @@ module _ (container : List ℕ) (c : ℕ) (whole : c + 45 ≤ length container) 
       rw (le-leb _ _ here, le-leb _ _ there) (inner 45 0x20 13 (drop c container) (omega arith) ∙ ap (take 13) (drop-drop 0x20 c container)) in
       ap (λ (part : List ℕ). sameBytes part contentsEnd) e
 
+  same-kind : kindAt bytes 0 ≡ kindAt container c
+  unfolding kindAt
+  same-kind = rw (same-marker, same-letters)
+
   pub same-opening : openingAt bytes 0 ≡ openingAt container c
   unfolding openingAt
-  same-opening =
-      rw (same-letters, same-be32 4 (omega arith), same-be16 8 (omega arith), same-be16 10 (omega arith), same-at 12 (omega arith), same-at 15 (omega arith), same-marker)
+  same-opening = rw (same-kind, same-be32 4 (omega arith), same-be16 8 (omega arith), same-be16 10 (omega arith), same-at 12 (omega arith), same-at 15 (omega arith))

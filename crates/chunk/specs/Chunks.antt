@@ -3,14 +3,13 @@ use Prim.Native.Nat.{ℕ, _+_, _-_}
 use mathlib.Core.List.{List, []}
 use mathlib.Core.Bool.{Bool, true, false, cond}
 use lib.ListN.{length}
-use lib.Dec.{ltb, eqb}
+use lib.Dec.{ltb}
 use denote.Ref.{RefT, now}
 use Rattle.refusal.specs.declared.Cause.{Cause}
 use Rattle.refusal.specs.declared.Cause.the-variants.{RanOut, TooSmall}
 use Rattle.reading.specs.declared.Applied.{Applied}
 use Rattle.reading.specs.Choices.{isChosen}
 use Rattle.part.specs.Parts.{partAt, IsPart, PartAt}
-use Rattle.signature.specs.Signatures.{SFV, SFA}
 use Rattle.chunk.specs.declared.Kind.{Kind}
 use Rattle.chunk.specs.declared.Kind.the-variants.{Video, Audio, Other, End}
 use Rattle.chunk.specs.declared.Opening.{Opening}
@@ -26,13 +25,6 @@ kindNumber Audio = 1
 kindNumber Other = 2
 kindNumber End = 3
 
--- "`#CONTENTS END` at c + 0x20 marks an end chunk, skipped. `@SFV` payloads go to video, `@SFA` to audio"; "An end chunk has kind `end` under any letters"
-unfoldable pub kindOf : Opening → Kind
-kindOf opening =
-    cond (opening .marked) End
-    (cond (eqb (opening .letters) SFV) Video
-    (cond (eqb (opening .letters) SFA) Audio Other))
-
 -- "`@SFV` payloads go to video, `@SFA` to audio if present and chosen; others are skipped"
 abbrev pub isTaken : Applied → Kind → Bool
 isTaken reading Video = true
@@ -42,7 +34,7 @@ isTaken reading End = false
 
 -- "next at c + 8 + block size. .. The payload starts at c + 0x20 whatever the header size says". n is the payload's length
 unfoldable pub chunkOf : ℕ → Opening → ℕ → Chunk
-chunkOf c opening n = record { start = c; kind = kindOf opening; «data_type» = opening .«data_type»; payload = c + 0x20; len = n; next = c + 8 + opening .block }
+chunkOf c opening n = record { start = c; kind = opening .kind; «data_type» = opening .«data_type»; next = c + 8 + opening .block; payload = c + 0x20; len = n }
 
 -- "the start of the block being read"
 abbrev pub refusedAt : ℕ → Cause → ChunkStep
@@ -60,7 +52,7 @@ takenAt container c opening =
 
 -- "others are skipped with no size check"; "payload length (0 if skipped)"
 unfoldable pub openedAt : List ℕ → Applied → ℕ → Opening → ChunkStep
-openedAt container reading c opening = cond (isTaken reading (kindOf opening)) (takenAt container c opening) (Found (chunkOf c opening 0))
+openedAt container reading c opening = cond (isTaken reading (opening .kind)) (takenAt container c opening) (Found (chunkOf c opening 0))
 
 -- "At c, fewer than 4 bytes left: clean end. .. 4 to 44 left: 1."
 unfoldable pub chunkAt : List ℕ → Applied → ℕ → ChunkStep

@@ -3,8 +3,8 @@
 ghost use mathlib.Core.Path.{_≡_};
 ghost use Prim.Native.Nat.{_+_, _≤_, _<_, _^_};
 ghost use lib.ListN.{length};
-ghost use Rattle.chunk.specs.Openings.{openingAt};
-ghost use Rattle.chunk.specs.Chunks.{kindNumber, kindOf, isTaken, chunkOf, refusedAt, takenAt, openedAt, chunkAt, PayloadOf, PayloadAt};
+ghost use Rattle.chunk.specs.Openings.{kindAt, openingAt};
+ghost use Rattle.chunk.specs.Chunks.{kindNumber, isTaken, chunkOf, refusedAt, takenAt, openedAt, chunkAt, PayloadOf, PayloadAt};
 use reading::Applied;
 use refusal::Cause;
 use refusal::Refusal;
@@ -17,26 +17,25 @@ pub enum Kind {
     End,
 }
 
-// What the opening of a chunk says: its letters, its sizes, its channel, its data type, and whether the end marker stands inside.
+// What the opening of a chunk says: what it is, the sizes of its block, header and footer, its channel, its data type.
 pub struct Opening {
-    pub letters: u32,
+    pub kind: Kind,
     pub block: u32,
     pub header: u16,
     pub footer: u16,
     pub channel: u8,
     pub data_type: u8,
-    pub marked: bool,
 }
 
-// A chunk: where it starts, what it is, its data type, where its payload starts and how long that is (0 if it is skipped),
-// where the next one starts.
+// A chunk: where it starts, what it is, its data type, where the next one starts, where its payload starts and how long that
+// is (0 if it is skipped).
 pub struct Chunk {
     pub start: usize,
     pub kind: Kind,
     pub data_type: u8,
+    pub next: usize,
     pub payload: usize,
     pub len: usize,
-    pub next: usize,
 }
 
 // What stands at a place: the end of all chunks, a chunk, or why there is none.
@@ -61,18 +60,40 @@ pub fn kind_number(kind: Kind) -> u8
     }
 }
 
+// What the chunk is that some bytes begin with.
+fn kind_of(bytes: &[u8]) -> Kind
+    ensures { λ r. ⌜ r ≡ kindAt (now (bytes .entry)) 0 ⌝ }
+{
+    if signature::stands_at(b"#CONTENTS END", bytes, signature::INSIDE) {
+        return Kind::End;
+    }
+    let letters = word::read32(bytes, 0);
+    if letters == signature::SFV {
+        return Kind::Video;
+    }
+    if letters == signature::SFA {
+        return Kind::Audio;
+    }
+    Kind::Other
+}
+
 // The opening of the chunk that some bytes begin with.
 fn opening_of(bytes: &[u8]) -> Opening
     ensures { λ r. ⌜ r ≡ openingAt (now (bytes .entry)) 0 ⌝ }
 {
+    let kind = kind_of(bytes);
+    let block = word::read32(bytes, 4) as u32;
+    let header = word::read16(bytes, 8) as u16;
+    let footer = word::read16(bytes, 10) as u16;
+    let channel = word::read8(bytes, 12) as u8;
+    let data_type = (word::read8(bytes, 15) % 4) as u8;
     Opening {
-        letters: word::read32(bytes, 0) as u32,
-        block: word::read32(bytes, 4) as u32,
-        header: word::read16(bytes, 8) as u16,
-        footer: word::read16(bytes, 10) as u16,
-        channel: word::read8(bytes, 12) as u8,
-        data_type: (word::read8(bytes, 15) % 4) as u8,
-        marked: signature::stands_at(b"#CONTENTS END", bytes, signature::INSIDE),
+        kind,
+        block,
+        header,
+        footer,
+        channel,
+        data_type,
     }
 }
 
@@ -83,23 +104,6 @@ fn opening_at(container: &[u8], place: usize) -> Opening
 {
     let end = place + OPENING;
     opening_of(&container[place..end])
-}
-
-// What the chunk of an opening is.
-fn kind_of(opening: Opening) -> Kind
-    ensures { λ r. ⌜ r ≡ kindOf opening ⌝ }
-{
-    if opening.marked {
-        return Kind::End;
-    }
-    let letters = opening.letters as usize;
-    if letters == signature::SFV {
-        return Kind::Video;
-    }
-    if letters == signature::SFA {
-        return Kind::Audio;
-    }
-    Kind::Other
 }
 
 // Whether the payload of such a chunk is taken.
@@ -122,13 +126,16 @@ fn chunk_of(place: usize, opening: Opening, len: usize) -> Chunk
     requires { ⌜ place < 2 ^ 63 ⌝ }
     ensures { λ r. ⌜ r ≡ chunkOf place opening len ⌝ }
 {
+    let next = place + 8 + opening.block as usize;
+    let payload = place + signature::INSIDE;
+    let kind = opening.kind;
     Chunk {
         start: place,
-        kind: kind_of(opening),
+        kind,
         data_type: opening.data_type,
-        payload: place + signature::INSIDE,
+        next,
+        payload,
         len,
-        next: place + 8 + opening.block as usize,
     }
 }
 
@@ -161,7 +168,8 @@ fn opened_at(container: &[u8], place: usize, reading: Applied, opening: Opening)
     requires { ⌜ place < 2 ^ 63 ⌝ }
     ensures { λ r. ⌜ r ≡ openedAt (now (container .entry)) reading place opening ⌝ }
 {
-    if is_taken(reading, kind_of(opening)) {
+    let kind = opening.kind;
+    if is_taken(reading, kind) {
         return taken_at(container, place, opening);
     }
     ChunkStep::Found(chunk_of(place, opening, 0))

@@ -5,8 +5,8 @@ use mathlib.Core.List.{List, _∷_, _++_}
 use Rattle.laws.specs.Lists.{tab}
 use Rattle.reading.specs.declared.AudioChoice.the-variants.{Chosen}
 use Rattle.signature.specs.Signatures.{contentsEnd, sameBytes}
-use Rattle.chunk.specs.Openings.{openingAt}
-use Rattle.chunk.specs.Chunks.{kindOf, chunkOf, presentIn, takenAt, openedAt, chunkAt}
+use Rattle.chunk.specs.Openings.{kindAt, openingAt}
+use Rattle.chunk.specs.Chunks.{chunkOf, presentIn, takenAt, openedAt, chunkAt}
 use Rattle.walk.specs.declared.Measured.the-variants.{Sizes}
 use Rattle.walk.specs.Walks.{walkFor, walkFrom, sizeOf, measureOf}
 
@@ -21,5 +21,5 @@ abbrev both : List ℕ
 both = front ++ (zeros 32 ++ (front ++ (contentsEnd ++ zeros 19)))
 
 measured : measureOf (walkFrom both (record { audio = Chosen }) 0) ≡ Sizes 2 32 0
-unfolding tab sameBytes openingAt kindOf chunkOf presentIn takenAt openedAt chunkAt walkFor walkFrom sizeOf measureOf
+unfolding tab sameBytes kindAt openingAt chunkOf presentIn takenAt openedAt chunkAt walkFor walkFrom sizeOf measureOf
 measured = refl

@@ -1,14 +1,10 @@
 -- `chunk::opened_at` meets its contract: the test on the kind picks the case of `openedAt`. Assumes nothing.
 use mathlib.Core.Path.{sym, ap, _∙_}
 use Rattle.chunk.specs.declared.ChunkStep.the-variants.{Found}
-use Rattle.chunk.specs.Chunks.{isTaken}
 use Rattle.chunk.proofs.CaseLaws.{taken, skipped}
 use borrow.Author.Needs.{needs}
 use Rattle.chunk.proofs.opened_at.Statement.{statement}
 use Rattle.chunk.proofs.opened_at.Tie as tie
-
-kind-of-requires : tie.Need-kind-of-requires
-kind-of-requires c κs = search needs
 
 is-taken-requires : tie.Need-is-taken-requires
 is-taken-requires c κs = search needs
@@ -17,25 +13,14 @@ taken-at-requires : tie.Need-taken-at-requires
 taken-at-requires c κs = search needs
 
 returns : tie.Need-returns
-returns c =
-    let t = c .before .before in
-    c .taken-at .ensures ∙ taken _ _ _ _ (sym (ap (isTaken _) (t .before .kind-of .ensures)) ∙ sym (t .is-taken .ensures) ∙ c .before .if1 .taken)
+returns c = c .taken-at .ensures ∙ taken _ _ _ _ (sym (c .before .before .is-taken .ensures) ∙ c .before .if1 .taken)
 
 chunk-of-requires : tie.Need-chunk-of-requires
 chunk-of-requires c κs = search needs
 
 returns-2 : tie.Need-returns-2
-returns-2 c =
-    let t = c .before .before in
-    ap Found (c .chunk-of .ensures) ∙ skipped _ _ _ _ (sym (ap (isTaken _) (t .before .kind-of .ensures)) ∙ sym (t .is-taken .ensures) ∙ c .before .if1 .left)
+returns-2 c = ap Found (c .chunk-of .ensures) ∙ skipped _ _ _ _ (sym (c .before .before .is-taken .ensures) ∙ c .before .if1 .left)
 
 pub opened-at-spec : {M : Type 1} → statement M
 opened-at-spec =
-    tie.close
-    (tie.spec
-    kind-of-requires
-    is-taken-requires
-    taken-at-requires
-    returns
-    chunk-of-requires
-    returns-2)
+    tie.close (tie.spec is-taken-requires taken-at-requires returns chunk-of-requires returns-2)
