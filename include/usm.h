@@ -34,6 +34,12 @@
 extern "C" {
 #endif
 
+/* The version of this header and of both libraries. CHANGELOG.md says what changed. */
+#define USM_VERSION "0.1.0"
+#define USM_VERSION_MAJOR 0
+#define USM_VERSION_MINOR 1
+#define USM_VERSION_PATCH 0
+
 /* The bytes of a key's tables: T, V and A, 32 each. */
 #define USM_KEY_TABLE_BYTES 96
 
@@ -131,6 +137,45 @@ struct usm_reading {
 /* Ready readings: tables as the original reads them, with audio and without. */
 static const struct usm_reading USM_READ_WITH_AUDIO = {1, 0, 0, USM_TABLES_ORIGINAL};
 static const struct usm_reading USM_READ_VIDEO_ONLY = {0, 0, 0, USM_TABLES_ORIGINAL};
+
+/* The reason that a number stands for, in words. Every number has one. */
+static inline const char *usm_reason(uint8_t number)
+{
+    switch (number) {
+    case USM_ACCEPTED:
+        return "accepted";
+    case USM_RAN_OUT:
+        return "bytes run out";
+    case USM_NO_FILM:
+        return "no CRID at the start";
+    case USM_NO_TABLE:
+        return "no @UTF where a table begins";
+    case USM_NO_VIDEO:
+        return "no @SFV where one is expected";
+    case USM_NO_AUDIO:
+        return "no @SFA where one is expected";
+    case USM_NO_HEADER_END:
+        return "no #HEADER END where one is expected";
+    case USM_NO_METADATA_END:
+        return "no #METADATA END where one is expected";
+    case USM_UNKNOWN_TYPE:
+        return "unknown column type";
+    case USM_TOO_SMALL:
+        return "a table or block size that is too small";
+    case USM_TOO_MANY:
+        return "over 64 columns or 256 rows in a table";
+    case USM_TOO_LONG:
+        return "longer than 1,073,741,824 bytes";
+    case USM_SHORT_OUTPUT:
+        return "the video or the audio output is too short";
+    case USM_SHORT_LIST:
+        return "the chunk list is too short";
+    case USM_OVERSIZED:
+        return "streams longer than the film";
+    default:
+        return "a number without a meaning";
+    }
+}
 
 /*
  * @UTF tables. The table begins at byte `place` of the `len` bytes at `bytes`. Of the numbers they
