@@ -1,0 +1,214 @@
+//! The functions of libplayer.a and libusm.a as include/usm.h declares them, behind safe calls. All `unsafe` of this
+//! crate stands here.
+#![allow(unsafe_code)]
+
+use std::mem::MaybeUninit;
+
+/// The bytes of a key's tables T, V and A.
+pub const KEY_TABLE_BYTES: usize = 96;
+
+#[repr(C)]
+#[derive(Clone, Copy)]
+pub struct Reading {
+    pub audio: u8,
+    pub channel: u8,
+    pub payloads: u8,
+    pub tables: u8,
+}
+
+#[repr(C)]
+#[derive(Clone, Copy)]
+pub struct Key {
+    pub number: u64,
+    pub given: u8,
+}
+
+#[repr(C)]
+#[derive(Clone, Copy)]
+pub struct TableReply {
+    pub refused_at: usize,
+    pub columns: usize,
+    pub rows: usize,
+    pub number: u8,
+    pub unknown_type: u8,
+}
+
+#[repr(C)]
+#[derive(Clone, Copy)]
+pub struct CellReply {
+    pub refused_at: usize,
+    pub value: u64,
+    pub length: usize,
+    pub number: u8,
+    pub unknown_type: u8,
+    pub kind: u8,
+}
+
+#[repr(C)]
+#[derive(Clone, Copy)]
+pub struct FilmReply {
+    pub refused_at: usize,
+    pub name_start: usize,
+    pub name_length: usize,
+    pub video_size: usize,
+    pub audio_size: usize,
+    pub video_codec: u32,
+    pub audio_codec: u32,
+    pub number: u8,
+    pub unknown_type: u8,
+    pub name_source: u8,
+    pub has_audio: u8,
+    pub has_video_codec: u8,
+    pub has_audio_codec: u8,
+    pub video_kind: u8,
+    pub audio_kind: u8,
+}
+
+#[repr(C)]
+#[derive(Clone, Copy, Debug)]
+pub struct Chunk {
+    pub start: usize,
+    pub kind: u8,
+    pub data_type: u8,
+    pub length: usize,
+}
+
+#[repr(C)]
+#[derive(Clone, Copy)]
+pub struct ListReply {
+    pub refused_at: usize,
+    pub count: usize,
+    pub number: u8,
+    pub unknown_type: u8,
+}
+
+// What usm.h says of these sizes.
+const _: () = assert!(size_of::<Reading>() == 4);
+const _: () = assert!(size_of::<Key>() == 16);
+const _: () = assert!(size_of::<TableReply>() == 32);
+const _: () = assert!(size_of::<CellReply>() == 32);
+const _: () = assert!(size_of::<FilmReply>() == 56);
+const _: () = assert!(size_of::<Chunk>() == 24);
+const _: () = assert!(size_of::<ListReply>() == 24);
+
+#[link(name = "player", kind = "static")]
+unsafe extern "C" {
+    fn usm_key_table(key: u64, table: *mut u8, len: usize) -> usize;
+    fn usm_unmask_video(key: u64, payload: *mut u8, len: usize);
+    fn usm_mask_video(key: u64, payload: *mut u8, len: usize);
+    fn usm_unmask_audio(key: u64, payload: *mut u8, len: usize);
+    fn usm_mask_audio(key: u64, payload: *mut u8, len: usize);
+}
+
+#[link(name = "usm", kind = "static")]
+unsafe extern "C" {
+    fn usm_table(bytes: *const u8, len: usize, place: usize) -> TableReply;
+    fn usm_cell(bytes: *const u8, len: usize, place: usize, name: *const u8, name_len: usize, row: usize) -> CellReply;
+    fn usm_extract(
+        container: *const u8,
+        len: usize,
+        reading: Reading,
+        key: Key,
+        fallback: *const u8,
+        fallback_len: usize,
+        video: *mut u8,
+        video_len: usize,
+        audio: *mut u8,
+        audio_len: usize,
+    ) -> FilmReply;
+    fn usm_list(container: *const u8, len: usize, reading: Reading, list: *mut Chunk, room: usize) -> ListReply;
+}
+
+// SAFETY, for every call below: each pointer and length are those of one slice, or of a vector's room, that is lent to
+// this call. Slices that are written are lent alone. The functions touch nothing else and keep nothing; each is proved
+// to write no byte outside what it is lent.
+
+pub fn key_table(key: u64) -> [u8; KEY_TABLE_BYTES] {
+    let mut table = [0; KEY_TABLE_BYTES];
+    unsafe { usm_key_table(key, table.as_mut_ptr(), table.len()) };
+    table
+}
+
+pub fn unmask_video(key: u64, payload: &mut [u8]) {
+    unsafe { usm_unmask_video(key, payload.as_mut_ptr(), payload.len()) }
+}
+
+pub fn mask_video(key: u64, payload: &mut [u8]) {
+    unsafe { usm_mask_video(key, payload.as_mut_ptr(), payload.len()) }
+}
+
+pub fn unmask_audio(key: u64, payload: &mut [u8]) {
+    unsafe { usm_unmask_audio(key, payload.as_mut_ptr(), payload.len()) }
+}
+
+pub fn mask_audio(key: u64, payload: &mut [u8]) {
+    unsafe { usm_mask_audio(key, payload.as_mut_ptr(), payload.len()) }
+}
+
+pub fn table(bytes: &[u8], place: usize) -> TableReply {
+    unsafe { usm_table(bytes.as_ptr(), bytes.len(), place) }
+}
+
+pub fn cell(bytes: &[u8], place: usize, name: &[u8], row: usize) -> CellReply {
+    unsafe { usm_cell(bytes.as_ptr(), bytes.len(), place, name.as_ptr(), name.len(), row) }
+}
+
+/// A film's reply without its streams: both outputs have no room.
+pub fn measure(container: &[u8], reading: Reading) -> FilmReply {
+    const NO_KEY: Key = Key { number: 0, given: 0 };
+    extract_to(container, reading, NO_KEY, &mut [], &mut [])
+}
+
+/// Extracts to the room of two vectors, which both become as long as their streams. Where the reply refuses, as it does
+/// where one of them has too little room, both are left as they were.
+pub fn extract(container: &[u8], reading: Reading, key: Key, video: &mut Vec<u8>, audio: &mut Vec<u8>) -> FilmReply {
+    let kept = [video.len(), audio.len()];
+    video.clear();
+    audio.clear();
+    let reply = extract_to(container, reading, key, video.spare_capacity_mut(), audio.spare_capacity_mut());
+    let lengths = if reply.number == 0 { [reply.video_size, reply.audio_size] } else { kept };
+    // SAFETY: an accepted film has written as many bytes to each as its size says, and they fit the room. A refusal
+    // writes nothing, so the bytes that were there are there still.
+    unsafe {
+        video.set_len(lengths[0]);
+        audio.set_len(lengths[1]);
+    }
+    reply
+}
+
+/// Outputs need not hold anything: what was not written is not read.
+fn extract_to(
+    container: &[u8],
+    reading: Reading,
+    key: Key,
+    video: &mut [MaybeUninit<u8>],
+    audio: &mut [MaybeUninit<u8>],
+) -> FilmReply {
+    unsafe {
+        usm_extract(
+            container.as_ptr(),
+            container.len(),
+            reading,
+            key,
+            [].as_ptr(),
+            0,
+            video.as_mut_ptr().cast(),
+            video.len(),
+            audio.as_mut_ptr().cast(),
+            audio.len(),
+        )
+    }
+}
+
+/// Lists a film's chunks in the room of a vector, which becomes as long as their count. Where the reply refuses, as it
+/// does where there is too little room, the vector is empty.
+pub fn list(container: &[u8], reading: Reading, chunks: &mut Vec<Chunk>) -> ListReply {
+    chunks.clear();
+    let room = chunks.spare_capacity_mut();
+    let reply = unsafe { usm_list(container.as_ptr(), container.len(), reading, room.as_mut_ptr().cast(), room.len()) };
+    if reply.number == 0 {
+        // SAFETY: an accepted listing has filled as many records as its count says, and they fit the room.
+        unsafe { chunks.set_len(reply.count) };
+    }
+    reply
+}

@@ -1,0 +1,54 @@
+//! USM films for Rust programs: their streams, their chunks, the masks of their payloads, and @UTF tables.
+//!
+//! Thin, safe functions over two static libraries in which every function is proved against its contract. All `unsafe`
+//! stands in one module. A film is the bytes of a whole USM file; nothing is read or written but what is lent.
+//!
+//! ```
+//! use usm::Reading;
+//!
+//! let film = std::fs::read("tests/song.usm")?;
+//! let song = usm::extract(&film, Reading::default(), Some(0x0123456789ABCDEF))?;
+//! println!("{} bytes of {}", song.video.len(), song.outline.video.kind);
+//!
+//! for chunk in &usm::list(&film, Reading::default())? {
+//!     println!("{} {} {}", chunk.start, chunk.kind, chunk.payload.len());
+//! }
+//! # Ok::<(), Box<dyn std::error::Error>>(())
+//! ```
+//!
+//! | to | call |
+//! |---|---|
+//! | extract both streams | [`extract`], [`extract_into`] |
+//! | learn what a film holds | [`outline`], [`sizes`] |
+//! | go through its chunks | [`list`], [`count`] |
+//! | read the tables of its header, or any @UTF table | [`header_tables`], [`table`] |
+//! | mask and unmask payloads | [`mask`], [`unmask`], [`key_table`] |
+//!
+//! Every film, damaged or hostile, has an answer: a result or a [`Refusal`] with a number, a place and a reason. No
+//! input panics, and no memory is asked for beyond the film's own length and 24 bytes for each chunk of a list.
+//!
+//! The feature `cridecoder` has a module with the names and signatures of that crate.
+#![deny(unsafe_code)]
+
+mod chunks;
+mod ffi;
+mod film;
+mod header;
+mod masks;
+mod reading;
+mod refusal;
+mod tables;
+
+#[cfg(feature = "cridecoder")]
+pub mod cridecoder;
+
+pub use chunks::{Chunk, ChunkKind, Chunks, Iter, count, list};
+pub use film::{AudioKind, Film, Outline, Track, VideoKind, extract, extract_into, outline, sizes};
+pub use header::{HeaderTable, header_tables};
+pub use masks::{KeyTable, Stream, key_table, mask, unmask};
+pub use reading::{Audio, Reading};
+pub use refusal::{Reason, Refusal};
+pub use tables::{Cell, Column, Row, Table, table};
+
+/// The bytes of the longest film that is read: 1 GiB.
+pub const LONGEST_FILM: usize = 1 << 30;

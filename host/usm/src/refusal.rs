@@ -1,0 +1,119 @@
+//! Why a film or a table is refused.
+
+use std::error::Error;
+use std::fmt;
+
+/// A film or a table that is refused: by which rule, and where.
+///
+/// ```
+/// let film = std::fs::read("tests/song.usm")?;
+/// let refusal = usm::outline(&film[..720], usm::Reading::default()).unwrap_err();
+/// assert_eq!(refusal.number, 1);
+/// assert_eq!(refusal.place, 704);
+/// assert_eq!(refusal.reason, usm::Reason::RanOut);
+/// assert_eq!(refusal.to_string(), "refused 1 at 704: bytes run out");
+/// # Ok::<(), std::io::Error>(())
+/// ```
+#[derive(Clone, Copy, PartialEq, Eq, Hash, Debug)]
+pub struct Refusal {
+    /// The number that the rules and the C header give it.
+    pub number: u8,
+    /// The start of the block or chunk being read, which may lie past the end; for a table that is read by itself, the
+    /// table's own. 0 where the whole film is meant.
+    pub place: usize,
+    /// The same as the number, by name.
+    pub reason: Reason,
+}
+
+/// The reasons for a refusal. As text each is a few words.
+#[derive(Clone, Copy, PartialEq, Eq, Hash, Debug)]
+#[non_exhaustive]
+pub enum Reason {
+    /// 1: bytes run out.
+    RanOut,
+    /// 2: no `CRID` at the start.
+    NoFilm,
+    /// 3: no `@UTF` where a table begins.
+    NoTable,
+    /// 4: no `@SFV` where one is expected.
+    NoVideo,
+    /// 5: no `@SFA` where one is expected.
+    NoAudio,
+    /// 6: no `#HEADER END` where one is expected.
+    NoHeaderEnd,
+    /// 7: no `#METADATA END` where one is expected.
+    NoMetadataEnd,
+    /// 8: a column type that is unknown: 7, 9 or 12 to 15.
+    UnknownType(u8),
+    /// 9: a table size below 24, or a block size below header plus footer size.
+    TooSmall,
+    /// 10: over 64 columns or 256 rows in a table.
+    TooMany,
+    /// 11: a film of over [`LONGEST_FILM`](crate::LONGEST_FILM) bytes.
+    TooLong,
+    /// Another number than those above. The functions of this crate give none.
+    Other(u8),
+}
+
+impl Refusal {
+    /// The refusal of a reply, where its number is one.
+    pub(crate) fn told(number: u8, place: usize, unknown_type: u8) -> Result<(), Refusal> {
+        match number {
+            0 => Ok(()),
+            number => Err(Refusal { number, place, reason: Reason::of(number, unknown_type) }),
+        }
+    }
+
+    /// The refusal of a film by its length alone, for a caller who has not read it: [`Reason::TooLong`] where it is
+    /// longer than [`LONGEST_FILM`](crate::LONGEST_FILM).
+    pub fn by_length(length: u64) -> Result<(), Refusal> {
+        let number = if length > crate::LONGEST_FILM as u64 { 11 } else { 0 };
+        Refusal::told(number, 0, 0)
+    }
+}
+
+impl Reason {
+    fn of(number: u8, unknown_type: u8) -> Reason {
+        match number {
+            1 => Reason::RanOut,
+            2 => Reason::NoFilm,
+            3 => Reason::NoTable,
+            4 => Reason::NoVideo,
+            5 => Reason::NoAudio,
+            6 => Reason::NoHeaderEnd,
+            7 => Reason::NoMetadataEnd,
+            8 => Reason::UnknownType(unknown_type),
+            9 => Reason::TooSmall,
+            10 => Reason::TooMany,
+            11 => Reason::TooLong,
+            number => Reason::Other(number),
+        }
+    }
+}
+
+impl fmt::Display for Reason {
+    fn fmt(&self, f: &mut fmt::Formatter) -> fmt::Result {
+        match self {
+            Reason::RanOut => f.write_str("bytes run out"),
+            Reason::NoFilm => f.write_str("no CRID at the start"),
+            Reason::NoTable => f.write_str("no @UTF where a table begins"),
+            Reason::NoVideo => f.write_str("no @SFV where one is expected"),
+            Reason::NoAudio => f.write_str("no @SFA where one is expected"),
+            Reason::NoHeaderEnd => f.write_str("no #HEADER END where one is expected"),
+            Reason::NoMetadataEnd => f.write_str("no #METADATA END where one is expected"),
+            Reason::UnknownType(column_type) => write!(f, "unknown column type {column_type}"),
+            Reason::TooSmall => f.write_str("a table or block size that is too small"),
+            Reason::TooMany => f.write_str("over 64 columns or 256 rows in a table"),
+            Reason::TooLong => f.write_str("longer than 1,073,741,824 bytes"),
+            Reason::Other(number) => write!(f, "reason {number}"),
+        }
+    }
+}
+
+impl fmt::Display for Refusal {
+    fn fmt(&self, f: &mut fmt::Formatter) -> fmt::Result {
+        write!(f, "refused {} at {}: {}", self.number, self.place, self.reason)
+    }
+}
+
+impl Error for Refusal {}
