@@ -1,1 +1,81 @@
-fn main() {}
+//! The command `usm`: what is in USM films, and their streams as files.
+//!
+//! Each subcommand is a file of its own. What they share: which films (`films`), several at once and each told in its
+//! turn (`crew`), and what is written where (`output`, `names`, `pair`).
+#![forbid(unsafe_code)]
+
+mod completions;
+mod crew;
+mod extract;
+mod films;
+mod info;
+mod key;
+mod keys;
+mod list;
+mod names;
+mod output;
+mod pair;
+mod progress;
+mod table;
+mod trouble;
+
+use std::io::Write;
+use std::process::ExitCode;
+
+use clap::{Parser, Subcommand};
+
+use trouble::Status;
+
+/// Looks into USM films and extracts them
+///
+/// Each FILE is a film, a folder, of which all films that end in .usm are taken, or - for standard input. A film that is
+/// refused or can't be read does not stop the others.
+#[derive(Parser)]
+#[command(name = "usm", version, after_help = STATUS, disable_help_subcommand = true)]
+struct Arguments {
+    #[command(subcommand)]
+    command: Command,
+}
+
+const STATUS: &str = "Status: 0 all is well, 1 some film is refused, 2 the arguments, a file or the system is at fault.
+Errors go to standard error; that of a film has the number of the refusal, the place and the reason.";
+
+#[derive(Subcommand)]
+enum Command {
+    Info(info::Info),
+    Keys(keys::Keys),
+    List(list::List),
+    Table(table::Table),
+    Extract(extract::Extract),
+    #[command(hide = true)]
+    Completions(completions::Completions),
+}
+
+fn main() -> ExitCode {
+    let status = match Arguments::try_parse() {
+        Ok(arguments) => run(arguments.command),
+        Err(told) => tell(told),
+    };
+    ExitCode::from(status as u8)
+}
+
+fn run(command: Command) -> Status {
+    match command {
+        Command::Info(info) => info.run(),
+        Command::Keys(keys) => keys.run(),
+        Command::List(list) => list.run(),
+        Command::Table(table) => table.run(),
+        Command::Extract(extract) => extract.run(),
+        Command::Completions(completions) => completions.run(),
+    }
+}
+
+/// Help and version, which are no errors, or what is wrong with the arguments.
+fn tell(told: clap::Error) -> Status {
+    let is_error = told.use_stderr();
+    match told.print().and_then(|()| std::io::stdout().flush()) {
+        Ok(()) if !is_error => Status::Well,
+        Ok(()) => Status::Trouble,
+        Err(error) => output::failed(error),
+    }
+}

@@ -1,0 +1,67 @@
+//! A key as it is typed.
+
+/// A key, and what its word may have been meant for.
+#[derive(Clone, Debug, PartialEq, Eq)]
+pub struct Key {
+    pub number: u64,
+    pub note: Option<String>,
+}
+
+const RULE: &str = "a key is 1 to 16 hex digits, with or without 0x";
+
+/// Reads a key: 1 to 16 hex digits of either case, with 0x in front or nothing.
+pub fn typed(word: &str) -> Result<Key, String> {
+    let prefix = word.get(..2).filter(|prefix| prefix.eq_ignore_ascii_case("0x"));
+    let digits = &word[prefix.map_or(0, str::len)..];
+    let is_key = matches!(digits.len(), 1..=16) && digits.bytes().all(|digit| digit.is_ascii_hexdigit());
+    let decimal = if prefix.is_none() { as_decimal(digits) } else { None };
+    match u64::from_str_radix(digits, 16) {
+        Ok(number) if is_key => {
+            let meant = decimal.filter(|&decimal| decimal != number);
+            let note = meant.map(|decimal| {
+                format!("{word} is read as hex, as all keys are; the decimal number {word} is the key {decimal:016X}")
+            });
+            Ok(Key { number, note })
+        }
+        _ => Err(match decimal {
+            Some(decimal) => format!("no key: {RULE}; the decimal number {word} is the key {decimal:016X}"),
+            None => format!("no key: {RULE}"),
+        }),
+    }
+}
+
+fn as_decimal(digits: &str) -> Option<u64> {
+    let is_decimal = !digits.is_empty() && digits.bytes().all(|digit| digit.is_ascii_digit());
+    is_decimal.then(|| digits.parse().ok()).flatten()
+}
+
+#[cfg(test)]
+mod tests {
+    use super::typed;
+
+    #[test]
+    fn keys_are_hex() {
+        for (word, number) in [("0", 0), ("0x0", 0), ("0XfF", 255), ("7F123456789ABCDE", 0x7F12_3456_789A_BCDE)] {
+            let key = typed(word).unwrap();
+            assert_eq!((key.number, key.note), (number, None), "{word}");
+        }
+        for word in ["", "0x", "-1", "+1", " 1", "1 ", "g", "0x12345678901234567", "é", "123456789012345678901"] {
+            assert_eq!(
+                typed(word),
+                Err("no key: a key is 1 to 16 hex digits, with or without 0x".to_string()),
+                "{word}"
+            );
+        }
+    }
+
+    #[test]
+    fn decimal_numbers_are_pointed_out() {
+        assert_eq!(typed("9").unwrap().note, None, "the same either way");
+        let key = typed("5613126134333697").unwrap();
+        assert_eq!(key.number, 0x5613_1261_3433_3697);
+        assert!(key.note.unwrap().ends_with("the decimal number 5613126134333697 is the key 0013F11BC5510101"));
+        assert_eq!(typed("0x5613126134333697").unwrap().note, None);
+        let no_key = typed("18446744073709551615").unwrap_err();
+        assert!(no_key.ends_with("the decimal number 18446744073709551615 is the key FFFFFFFFFFFFFFFF"), "{no_key}");
+    }
+}

@@ -1,0 +1,270 @@
+//! `usm table`: the tables of a film's header, or one at a place.
+
+use std::fmt::{self, Display};
+use std::io::Write;
+
+use clap::Args;
+use serde::ser::SerializeSeq;
+use serde::{Serialize, Serializer};
+use usm::{Cell, Column, Row};
+
+use crate::crew::{self, Film, Task, Turn};
+use crate::films::Films;
+use crate::names::{Hex, Shown};
+use crate::output::{About, AsHex, AsText, Output, as_string, say, tell};
+use crate::trouble::{Status, Trouble};
+
+/// Show the tables of films' headers
+///
+/// All tables of a film's header, each with its place; or the one at a place, of any file.
+#[derive(Args)]
+pub struct Table {
+    #[command(flatten)]
+    films: Films,
+    /// The table at this place, a number of bytes (0x in front: in hex)
+    #[arg(long, value_name = "PLACE", value_parser = place)]
+    at: Option<usize>,
+    /// Write the table at the place of one file as CSV, by RFC 4180: names, then rows; data and floats in hex
+    #[arg(long, conflicts_with = "json", requires = "at")]
+    csv: bool,
+}
+
+impl Table {
+    pub fn run(self) -> Status {
+        if self.csv && !matches!(&self.films.files[..], [file] if !file.is_dir()) {
+            return say(Status::Trouble, "--csv writes one table: name one file");
+        }
+        crew::run(&self, &self.films)
+    }
+}
+
+fn place(word: &str) -> Result<usize, String> {
+    let number = match word.strip_prefix("0x").or_else(|| word.strip_prefix("0X")) {
+        Some(digits) => usize::from_str_radix(digits, 16),
+        None => word.parse(),
+    };
+    number.map_err(|error| error.to_string())
+}
+
+impl Task for Table {
+    fn film(&self, film: Film, turn: &Turn) -> Result<(), Trouble> {
+        let tables = match self.at {
+            Some(place) => vec![Placed { letters: None, place, table: usm::table(&film.bytes, place)? }],
+            None => usm::header_tables(&film.bytes)?
+                .iter()
+                .map(|found| {
+                    let table = usm::table(&film.bytes, found.place)?;
+                    Ok(Placed { letters: Some(found.letters), place: found.place, table })
+                })
+                .collect::<Result<_, Trouble>>()?,
+        };
+        let mut told = turn.take();
+        if self.films.json {
+            told.object(&Object { about: About::new(film.label), tables: &tables })
+        } else if self.csv {
+            tables.iter().try_for_each(|placed| write_csv(&placed.table, &mut told))
+        } else {
+            tables.iter().try_for_each(|placed| tell_table(&film, placed, &mut told))
+        }
+    }
+}
+
+/// A table, its place, and the letters of its block where it is one of a header.
+struct Placed<'a> {
+    letters: Option<[u8; 4]>,
+    place: usize,
+    table: usm::Table<'a>,
+}
+
+/// So many bytes of data are shown to a person.
+const SHOWN: usize = 32;
+
+fn tell_table(film: &Film, placed: &Placed, output: &mut Output) -> Result<(), Trouble> {
+    let Placed { letters, place, table } = placed;
+    output.gap()?;
+    let block = letters.map_or(String::new(), |letters| format!("{} ", Shown::bytes(&letters)));
+    let (columns, rows) = (table.columns().len(), table.row_count());
+    tell!(output, "{}: {block}table at {place}: columns {columns}, rows {rows}\n", Shown::path(film.label));
+    for (number, row) in table.rows().enumerate() {
+        if rows > 1 {
+            tell!(output, "row {number}\n");
+        }
+        for (column, cell) in table.columns().iter().zip(row.cells()) {
+            tell!(output, "  {}  {}\n", Shown::bytes(column.name), ForPerson(cell));
+        }
+    }
+    if rows == 0 {
+        for column in table.columns() {
+            tell!(output, "  {}\n", Shown::bytes(column.name));
+        }
+    }
+    Ok(())
+}
+
+struct ForPerson<'a>(Cell<'a>);
+
+impl Display for ForPerson<'_> {
+    fn fmt(&self, f: &mut fmt::Formatter) -> fmt::Result {
+        match self.0 {
+            Cell::Unsigned(number) => write!(f, "{number}"),
+            Cell::Signed(number) => write!(f, "{number}"),
+            Cell::Float(float) => write!(f, "{float} ({:08x})", float.to_bits()),
+            Cell::String(text) => write!(f, "\"{}\"", Shown::bytes(text)),
+            Cell::Data(data) if data.len() > SHOWN => write!(f, "{}.. {} bytes", Hex(&data[..SHOWN]), data.len()),
+            Cell::Data(data) => write!(f, "{} {} bytes", Hex(data), data.len()),
+        }
+    }
+}
+
+/// Names first, then the rows. A table without columns writes nothing.
+fn write_csv(table: &usm::Table, output: &mut Output) -> Result<(), Trouble> {
+    if table.columns().is_empty() {
+        return Ok(());
+    }
+    let names = table.columns().iter().map(|column| Field::Text(column.name));
+    write_record(names, output).map_err(Trouble::Output)?;
+    for row in table.rows() {
+        write_record(row.cells().map(Field::of), output).map_err(Trouble::Output)?;
+    }
+    Ok(())
+}
+
+/// A field of CSV. The writer of the crate csv puts quotes around a lone empty field, which the RFC does not.
+enum Field<'a> {
+    Text(&'a [u8]),
+    Data(&'a [u8]),
+    Number(String),
+}
+
+impl<'a> Field<'a> {
+    fn of(cell: Cell<'a>) -> Field<'a> {
+        match cell {
+            Cell::Unsigned(number) => Field::Number(number.to_string()),
+            Cell::Signed(number) => Field::Number(number.to_string()),
+            Cell::Float(float) => Field::Number(format!("{:08x}", float.to_bits())),
+            Cell::String(text) => Field::Text(text),
+            Cell::Data(data) => Field::Data(data),
+        }
+    }
+
+    fn write(&self, output: &mut Output) -> std::io::Result<()> {
+        match self {
+            Field::Number(number) => output.write_all(number.as_bytes()),
+            Field::Data(data) => write!(output, "{}", Hex(data)),
+            Field::Text(text) if !text.iter().any(|byte| b",\"\r\n".contains(byte)) => output.write_all(text),
+            Field::Text(text) => {
+                output.write_all(b"\"")?;
+                for part in text.split_inclusive(|&byte| byte == b'"') {
+                    output.write_all(part)?;
+                    if part.ends_with(b"\"") {
+                        output.write_all(b"\"")?;
+                    }
+                }
+                output.write_all(b"\"")
+            }
+        }
+    }
+}
+
+fn write_record<'a>(fields: impl Iterator<Item = Field<'a>>, output: &mut Output) -> std::io::Result<()> {
+    for (number, field) in fields.enumerate() {
+        if number > 0 {
+            output.write_all(b",")?;
+        }
+        field.write(output)?;
+    }
+    output.write_all(b"\r\n")
+}
+
+#[derive(Serialize)]
+struct Object<'a> {
+    #[serde(flatten)]
+    about: About<'a>,
+    tables: &'a [Placed<'a>],
+}
+
+impl Serialize for Placed<'_> {
+    fn serialize<S: Serializer>(&self, serializer: S) -> Result<S::Ok, S::Error> {
+        #[derive(Serialize)]
+        struct Whole<'a> {
+            #[serde(skip_serializing_if = "Option::is_none")]
+            block: Option<AsText<'a>>,
+            #[serde(serialize_with = "as_string")]
+            place: usize,
+            columns: Vec<Named<'a>>,
+            rows: Rows<'a>,
+        }
+        Whole {
+            block: self.letters.as_ref().map(|letters| AsText(letters)),
+            place: self.place,
+            columns: self.table.columns().iter().map(Named::of).collect(),
+            rows: Rows(&self.table),
+        }
+        .serialize(serializer)
+    }
+}
+
+#[derive(Serialize)]
+struct Named<'a> {
+    name: AsText<'a>,
+    name_hex: AsHex<'a>,
+    #[serde(rename = "type")]
+    type_byte: u8,
+    constant: bool,
+}
+
+impl<'a> Named<'a> {
+    fn of(column: &Column<'a>) -> Named<'a> {
+        Named {
+            name: AsText(column.name),
+            name_hex: AsHex(column.name),
+            type_byte: column.type_byte,
+            constant: column.constant.is_some(),
+        }
+    }
+}
+
+/// Rows, written one after the other.
+struct Rows<'a>(&'a usm::Table<'a>);
+
+impl Serialize for Rows<'_> {
+    fn serialize<S: Serializer>(&self, serializer: S) -> Result<S::Ok, S::Error> {
+        serializer.collect_seq(self.0.rows().map(Cells))
+    }
+}
+
+struct Cells<'a, 'b>(Row<'a, 'b>);
+
+impl Serialize for Cells<'_, '_> {
+    fn serialize<S: Serializer>(&self, serializer: S) -> Result<S::Ok, S::Error> {
+        let cells = self.0.cells();
+        let mut sequence = serializer.serialize_seq(Some(cells.len()))?;
+        for cell in cells {
+            sequence.serialize_element(&Value::of(cell))?;
+        }
+        sequence.end()
+    }
+}
+
+/// A cell: what it is, and its value, by which no digit is lost.
+#[derive(Serialize)]
+#[serde(tag = "is", rename_all = "lowercase")]
+enum Value<'a> {
+    Unsigned { value: String },
+    Signed { value: String },
+    Float { bits: String },
+    String { text: AsText<'a>, hex: AsHex<'a> },
+    Data { hex: AsHex<'a> },
+}
+
+impl<'a> Value<'a> {
+    fn of(cell: Cell<'a>) -> Value<'a> {
+        match cell {
+            Cell::Unsigned(number) => Value::Unsigned { value: number.to_string() },
+            Cell::Signed(number) => Value::Signed { value: number.to_string() },
+            Cell::Float(float) => Value::Float { bits: format!("{:08x}", float.to_bits()) },
+            Cell::String(text) => Value::String { text: AsText(text), hex: AsHex(text) },
+            Cell::Data(data) => Value::Data { hex: AsHex(data) },
+        }
+    }
+}

@@ -1,0 +1,52 @@
+use films::{Film, Header};
+
+use crate::support::Folder;
+
+const F: &str = "\
+f.usm: 2 chunks
+ start  kind   type  channel  length
+   320  video     0        0      32
+   384  end       0        0       0
+";
+
+#[test]
+fn chunks_in_their_order() {
+    let folder = Folder::with_films();
+    folder.usm(&["list", "f.usm"]).expect(0, F, "");
+    folder.usm(&["list", "empty.usm", "f.usm"]).expect(0, &format!("empty.usm: 0 chunks\n\n{F}"), "");
+    let run = folder.usm(&["list", "song.usm"]);
+    assert_eq!(run.out.lines().count(), 10);
+    assert!(run.out.contains("\n  2080  audio     1        0     336\n"), "{}", run.out);
+    assert!(folder.usm(&["list", "--no-audio", "song.usm"]).out.contains("\n  2080  audio     1        0       0\n"));
+}
+
+#[test]
+fn csv_names_the_film_of_each_chunk() {
+    let folder = Folder::with_films();
+    folder.write("a,b.usm", &films::f());
+    folder.usm(&["list", "--csv", "cut.usm", "f.usm", "empty.usm", "a,b.usm"]).expect(
+        1,
+        "file,start,kind,type,channel,length\r\n\
+         f.usm,320,video,0,0,32\r\nf.usm,384,end,0,0,0\r\n\
+         \"a,b.usm\",320,video,0,0,32\r\n\"a,b.usm\",384,end,0,0,0\r\n",
+        "usm: cut.usm: refused 1 at 384: bytes run out\n",
+    );
+    assert_eq!(folder.usm(&["list", "--csv", "--json", "f.usm"]).status, 2);
+}
+
+#[test]
+fn json_has_strings_for_wide_numbers() {
+    let folder = Folder::new();
+    let mut film = Film::new(&Header { audio: Some(None), ..Header::default() });
+    let start = film.bytes.len();
+    film.chunk(b"@SFA", 7, 3, b"sound");
+    folder.write("film.usm", &film.bytes);
+    folder.usm(&["list", "--json", "film.usm"]).expect(
+        0,
+        &format!(
+            "{{\"file\":\"film.usm\",\"file_hex\":\"66696c6d2e75736d\",\"chunks\":\
+             [{{\"start\":\"{start}\",\"kind\":\"audio\",\"type\":3,\"channel\":7,\"length\":\"5\"}}]}}\n"
+        ),
+        "",
+    );
+}

@@ -1,0 +1,12 @@
+//! The command on real files.
+
+mod extract;
+mod help;
+mod info;
+mod input;
+mod keys;
+mod list;
+mod memory;
+mod output;
+mod support;
+mod table;
