@@ -111,3 +111,20 @@ is_built() {
     [ -x "$built/usm" ] && [ -e "$made/is-built" ] &&
         [ -z "$(find "$root/crates" "$root/crates.txt" "$root/host" -type f -newer "$made/is-built" -print -quit)" ]
 }
+
+# A copy of host/beside under target/, with the original put into its oracle crate and the comparison's files.
+make_beside() {
+    local original=$1 sum file copy=$made/beside access=$root/compare/oracle/access
+    while read -r sum file; do
+        [ -f "$original/$file" ] || stop "$original/$file is not there"
+        [ "$(sha256sum <"$original/$file")" = "$sum  -" ] || stop "$original/$file is another version: its SHA-256 is not $sum"
+    done <"$root/compare/original.sha256"
+    rm -rf "$copy"
+    mkdir -p "$copy"
+    cp -R "$root/host/beside/." "$root/compare/oracle" "$copy"
+    cp -R "$root/compare/src" "$copy/comparison"
+    mkdir -p "$copy/oracle/src/usm"
+    cp "$original/src/reader.rs" "$copy/oracle/src/reader.rs"
+    cat "$original/src/usm/extractor.rs" "$access/extractor.rs" >"$copy/oracle/src/usm/extractor.rs"
+    cat "$original/src/usm/builder.rs" "$access/builder.rs" >"$copy/oracle/src/usm/builder.rs"
+}

@@ -11,10 +11,10 @@ use serde::Serialize;
 use usm::{Audio, Outline, Reading};
 
 use crate::crew::{self, Film, Task, Turn};
-use crate::films::{Films, reserve};
+use crate::films::{Films, make_room};
 use crate::key;
 use crate::names::{Shown, safe};
-use crate::output::{About, AsHex, AsText, as_string, say, tell};
+use crate::output::{About, AsHex, AsText, Output, as_string, say, tell};
 use crate::pair::{EXISTS, Pair};
 use crate::trouble::{Status, Trouble};
 
@@ -87,42 +87,29 @@ struct Extraction {
 impl Task for Extraction {
     const STEPS: u64 = 2;
 
-    fn film(&self, film: Film, turn: &Turn) -> Result<(), Trouble> {
-        let Film { label, bytes, meter } = film;
-        let outline = usm::outline(&bytes, self.reading)?;
+    fn film<'a>(&'a self, film: Film<'a, '_>, turn: &Turn<'a, '_>) -> Result<(), Trouble> {
+        let Film { label, bytes, video, audio, meter } = film;
+        let outline = usm::outline(bytes, self.reading)?;
         let targets = self.targets(label, &outline)?;
-        let (mut video, mut audio) = (Vec::new(), Vec::new());
-        reserve(&mut video, outline.video.size)?;
-        reserve(&mut audio, outline.audio.map_or(0, |track| track.size))?;
-        usm::extract_into(&bytes, self.reading, self.key, &mut video, &mut audio)?;
+        make_room(video, outline.video.size)?;
+        make_room(audio, outline.audio.map_or(0, |track| track.size))?;
+        usm::extract_into(bytes, self.reading, self.key, video, audio)?;
         let mut pair = Pair::default();
-        for (target, stream) in targets.iter().zip([&video, &audio]) {
+        for (target, stream) in targets.iter().zip([&*video, &*audio]) {
             pair.write(target.clone(), stream, meter)?;
         }
         let sizes = [video.len(), audio.len()];
-        drop((video, audio));
-
-        let mut told = turn.take();
-        self.place(label, &pair, &targets)?;
-        let streams: Vec<Stream> = targets.iter().zip(sizes).map(|(target, size)| Stream::new(target, size)).collect();
         if self.told.films.json {
-            told.object(&Extracted {
-                about: About::new(label),
-                name: outline.name.map(AsText),
-                name_hex: outline.name.map(AsHex),
-                video: &streams[0],
-                audio: streams.get(1),
-            })
-        } else if !self.told.quiet {
-            told.gap()?;
-            tell!(&mut *told, "{}\n", Shown::path(label));
-            for (kind, (target, size)) in ["video", "audio"].iter().zip(targets.iter().zip(sizes)) {
-                tell!(&mut *told, "{kind}  {size} bytes: {}\n", Shown::path(target));
-            }
-            Ok(())
-        } else {
-            Ok(())
+            // The name, which may be as long as the film, stays where it is.
+            let mut told = turn.take();
+            self.place(label, &pair, &targets)?;
+            return told.object(&Extracted::of(label, outline.name, &targets, sizes));
         }
+        turn.hand_over(move |output| {
+            self.place(label, &pair, &targets)?;
+            if self.told.quiet { Ok(()) } else { tell_files(label, &targets, sizes, output) }
+        });
+        Ok(())
     }
 }
 
@@ -168,14 +155,23 @@ fn whole(target: &Path) -> io::Result<PathBuf> {
     Ok(folder.join(target.file_name().unwrap_or_default()))
 }
 
+fn tell_files(label: &Path, targets: &[PathBuf], sizes: [usize; 2], output: &mut Output) -> Result<(), Trouble> {
+    output.gap()?;
+    tell!(output, "{}\n", Shown::path(label));
+    for (kind, (target, size)) in ["video", "audio"].iter().zip(targets.iter().zip(sizes)) {
+        tell!(output, "{kind}  {size} bytes: {}\n", Shown::path(target));
+    }
+    Ok(())
+}
+
 #[derive(Serialize)]
 struct Extracted<'a> {
     #[serde(flatten)]
     about: About<'a>,
     name: Option<AsText<'a>>,
     name_hex: Option<AsHex<'a>>,
-    video: &'a Stream<'a>,
-    audio: Option<&'a Stream<'a>>,
+    video: Option<Stream<'a>>,
+    audio: Option<Stream<'a>>,
 }
 
 #[derive(Serialize)]
@@ -186,9 +182,18 @@ struct Stream<'a> {
     size: usize,
 }
 
-impl<'a> Stream<'a> {
-    fn new(path: &'a Path, size: usize) -> Stream<'a> {
-        let bytes = path.as_os_str().as_encoded_bytes();
-        Stream { path: AsText(bytes), path_hex: AsHex(bytes), size }
+impl<'a> Extracted<'a> {
+    fn of(label: &'a Path, name: Option<&'a [u8]>, targets: &'a [PathBuf], sizes: [usize; 2]) -> Extracted<'a> {
+        let stream = |number: usize| {
+            let path = targets.get(number)?.as_os_str().as_encoded_bytes();
+            Some(Stream { path: AsText(path), path_hex: AsHex(path), size: sizes[number] })
+        };
+        Extracted {
+            about: About::new(label),
+            name: name.map(AsText),
+            name_hex: name.map(AsHex),
+            video: stream(0),
+            audio: stream(1),
+        }
     }
 }

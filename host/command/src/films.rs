@@ -52,14 +52,14 @@ impl Source {
         }
     }
 
-    /// All its bytes.
-    pub fn read(&self, meter: &Meter) -> Result<Vec<u8>, Trouble> {
+    /// All its bytes, in the place of what was in a buffer.
+    pub fn read(&self, bytes: &mut Vec<u8>, meter: &Meter) -> Result<(), Trouble> {
         let file = match self {
             Source::File(path) => File::open(path),
             Source::StandardInput => io::stdin().as_fd().try_clone_to_owned().map(File::from),
             Source::Nothing(_, why) => return Err(Trouble::System(why.clone())),
         };
-        file.map_err(system).and_then(|file| read_file(file, meter))
+        file.map_err(system).and_then(|file| read_file(file, bytes, meter))
     }
 }
 
@@ -118,45 +118,42 @@ const SIP: u64 = 1 << 16;
 /// Room for what a pipe gives grows by so much.
 const GROWTH: usize = 16 << 20;
 
-fn read_file(mut file: File, meter: &Meter) -> Result<Vec<u8>, Trouble> {
+fn read_file(mut file: File, bytes: &mut Vec<u8>, meter: &Meter) -> Result<(), Trouble> {
     let metadata = file.metadata().map_err(system)?;
     if !metadata.is_file() {
-        return read_unknown(&mut file, meter);
+        return read_unknown(&mut file, bytes, meter);
     }
     let start = file.stream_position().map_err(system)?;
-    read_known(&mut file, metadata.len().saturating_sub(start), meter)
+    read_known(&mut file, metadata.len().saturating_sub(start), bytes, meter)
 }
 
 /// Reads a file whose length is known. It is refused by its length before it is read.
-fn read_known(file: &mut File, length: u64, meter: &Meter) -> Result<Vec<u8>, Trouble> {
+fn read_known(file: &mut File, length: u64, bytes: &mut Vec<u8>, meter: &Meter) -> Result<(), Trouble> {
     Refusal::by_length(length)?;
-    let mut bytes = Vec::new();
-    reserve(&mut bytes, length as usize)?;
+    make_room(bytes, length as usize)?;
     while (bytes.len() as u64) < length {
         let piece = PIECE.min(length - bytes.len() as u64);
-        if read_piece(file, piece, &mut bytes, meter)? == 0 {
-            return Err(Trouble::System(format!(
-                "it shrank while it was read: {} of {length} bytes are left",
-                bytes.len()
-            )));
+        if read_piece(file, piece, bytes, meter)? == 0 {
+            let left = bytes.len();
+            return Err(Trouble::System(format!("it shrank while it was read: {left} of {length} bytes are left")));
         }
     }
     match file.read(&mut [0]).map_err(system)? {
-        0 => Ok(bytes),
+        0 => Ok(()),
         _ => Err(Trouble::System(format!("it grew while it was read: it had {length} bytes"))),
     }
 }
 
 /// Reads a pipe or the like to its end, or to the first byte that is too many.
-fn read_unknown(file: &mut File, meter: &Meter) -> Result<Vec<u8>, Trouble> {
-    let mut bytes = Vec::new();
+fn read_unknown(file: &mut File, bytes: &mut Vec<u8>, meter: &Meter) -> Result<(), Trouble> {
+    bytes.clear();
     loop {
         if bytes.len() == bytes.capacity() {
-            reserve(&mut bytes, GROWTH)?;
+            bytes.try_reserve_exact(GROWTH).map_err(|_| no_memory(bytes.len() + GROWTH))?;
         }
         let room = (bytes.capacity() - bytes.len()) as u64;
-        if read_piece(file, room.min(SIP), &mut bytes, meter)? == 0 {
-            return Ok(bytes);
+        if read_piece(file, room.min(SIP), bytes, meter)? == 0 {
+            return Ok(());
         }
         Refusal::by_length(bytes.len() as u64)?;
     }
@@ -169,7 +166,38 @@ fn read_piece(file: &mut File, most: u64, bytes: &mut Vec<u8>, meter: &Meter) ->
     Ok(read)
 }
 
-/// Room for so many more bytes, exactly.
-pub fn reserve(bytes: &mut Vec<u8>, more: usize) -> Result<(), Trouble> {
-    bytes.try_reserve_exact(more).map_err(|_| Trouble::System(format!("no memory for {more} bytes")))
+/// Empties a buffer and makes room in it, for exactly so many bytes where it has less.
+pub fn make_room(bytes: &mut Vec<u8>, size: usize) -> Result<(), Trouble> {
+    bytes.clear();
+    if bytes.capacity() < size {
+        *bytes = Vec::new();
+        bytes.try_reserve_exact(size).map_err(|_| no_memory(size))?;
+    }
+    Ok(())
+}
+
+fn no_memory(size: usize) -> Trouble {
+    Trouble::System(format!("no memory for {size} bytes"))
+}
+
+/// What a worker needs memory for. It goes from film to film, so that small films cost no new memory each.
+#[derive(Default)]
+pub struct Buffers {
+    pub film: Vec<u8>,
+    pub video: Vec<u8>,
+    pub audio: Vec<u8>,
+}
+
+/// A buffer that is larger is not kept.
+const KEPT: usize = 16 << 20;
+
+impl Buffers {
+    /// Gives back what is large.
+    pub fn shrink(&mut self) {
+        for buffer in [&mut self.film, &mut self.video, &mut self.audio] {
+            if buffer.capacity() > KEPT {
+                *buffer = Vec::new();
+            }
+        }
+    }
 }

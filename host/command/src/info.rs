@@ -30,9 +30,9 @@ impl Info {
 }
 
 impl Task for Info {
-    fn film(&self, film: Film, turn: &Turn) -> Result<(), Trouble> {
-        let outline = usm::outline(&film.bytes, Reading::default())?;
-        let facts = Facts::of(&outline, &listed(&film.bytes, Reading::default())?);
+    fn film<'a>(&'a self, film: Film<'a, '_>, turn: &Turn<'a, '_>) -> Result<(), Trouble> {
+        let outline = usm::outline(film.bytes, Reading::default())?;
+        let facts = Facts::of(&outline, &listed(film.bytes, Reading::default())?);
         let mut told = turn.take();
         if self.films.json {
             told.object(&Object::of(&film, &outline, &facts))
@@ -190,7 +190,7 @@ struct Group {
 }
 
 impl<'a> Object<'a> {
-    fn of(film: &'a Film, outline: &Outline<'a>, facts: &Facts) -> Object<'a> {
+    fn of(film: &'a Film<'_, '_>, outline: &Outline<'a>, facts: &Facts) -> Object<'a> {
         Object {
             about: About::new(film.label),
             bytes: film.bytes.len(),

@@ -36,9 +36,9 @@ impl List {
 }
 
 impl Task for List {
-    fn film(&self, film: Film, turn: &Turn) -> Result<(), Trouble> {
+    fn film<'a>(&'a self, film: Film<'a, '_>, turn: &Turn<'a, '_>) -> Result<(), Trouble> {
         let audio = if self.no_audio { Audio::None } else { Audio::All };
-        let chunks = listed(&film.bytes, Reading::default().with_audio(audio))?;
+        let chunks = listed(film.bytes, Reading::default().with_audio(audio))?;
         let mut told = turn.take();
         if self.films.json {
             told.object(&Object { about: About::new(film.label), chunks: InOrder(&chunks) })

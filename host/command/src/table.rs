@@ -47,13 +47,13 @@ fn place(word: &str) -> Result<usize, String> {
 }
 
 impl Task for Table {
-    fn film(&self, film: Film, turn: &Turn) -> Result<(), Trouble> {
+    fn film<'a>(&'a self, film: Film<'a, '_>, turn: &Turn<'a, '_>) -> Result<(), Trouble> {
         let tables = match self.at {
-            Some(place) => vec![Placed { letters: None, place, table: usm::table(&film.bytes, place)? }],
-            None => usm::header_tables(&film.bytes)?
+            Some(place) => vec![Placed { letters: None, place, table: usm::table(film.bytes, place)? }],
+            None => usm::header_tables(film.bytes)?
                 .iter()
                 .map(|found| {
-                    let table = usm::table(&film.bytes, found.place)?;
+                    let table = usm::table(film.bytes, found.place)?;
                     Ok(Placed { letters: Some(found.letters), place: found.place, table })
                 })
                 .collect::<Result<_, Trouble>>()?,
