@@ -172,6 +172,8 @@ static inline const char *usm_reason(uint8_t number)
         return "the chunk list is too short";
     case USM_OVERSIZED:
         return "streams longer than the film";
+    case USM_UNKNOWN_STORAGE:
+        return "unknown storage of a column";
     default:
         return "a number without a meaning";
     }

@@ -102,8 +102,16 @@ unsafe extern "C" {
 
 #[link(name = "usm", kind = "static")]
 unsafe extern "C" {
-    fn usm_table(bytes: *const u8, len: usize, place: usize) -> TableReply;
-    fn usm_cell(bytes: *const u8, len: usize, place: usize, name: *const u8, name_len: usize, row: usize) -> CellReply;
+    fn usm_table(bytes: *const u8, len: usize, place: usize, reading: Reading) -> TableReply;
+    fn usm_cell(
+        bytes: *const u8,
+        len: usize,
+        place: usize,
+        name: *const u8,
+        name_len: usize,
+        row: usize,
+        reading: Reading,
+    ) -> CellReply;
     fn usm_extract(
         container: *const u8,
         len: usize,
@@ -145,12 +153,15 @@ pub fn mask_audio(key: u64, payload: &mut [u8]) {
     unsafe { usm_mask_audio(key, payload.as_mut_ptr(), payload.len()) }
 }
 
+/// Tables as the original reads them.
+const AS_THE_ORIGINAL: Reading = Reading { audio: 0, channel: 0, payloads: 0, tables: 0 };
+
 pub fn table(bytes: &[u8], place: usize) -> TableReply {
-    unsafe { usm_table(bytes.as_ptr(), bytes.len(), place) }
+    unsafe { usm_table(bytes.as_ptr(), bytes.len(), place, AS_THE_ORIGINAL) }
 }
 
 pub fn cell(bytes: &[u8], place: usize, name: &[u8], row: usize) -> CellReply {
-    unsafe { usm_cell(bytes.as_ptr(), bytes.len(), place, name.as_ptr(), name.len(), row) }
+    unsafe { usm_cell(bytes.as_ptr(), bytes.len(), place, name.as_ptr(), name.len(), row, AS_THE_ORIGINAL) }
 }
 
 /// A film's reply without its streams: both outputs have no room.
