@@ -1,6 +1,7 @@
 -- No second answer meets a contract of this crate: what a caller learns makes two results one. Assumes nothing.
 use mathlib.Core.Path.{_≡_}
 use Rattle.laws.proofs.OneAnswer.{no-second-answer}
+use Rattle.part.proofs.OneAnswer.{SamePart, one-part}
 use Rattle.fields.proofs.next_line.Reads as next-line
 use Rattle.fields.proofs.ends_in_line.Reads as ends-in-line
 use Rattle.fields.proofs.is_marked.Reads as is-marked
@@ -19,8 +20,8 @@ ends-in-line-once κs args r r′ exit exit′ = no-second-answer
 pub is-marked-once : (κs : _) (args : _) (r r′ : _) (exit exit′ : _) → is-marked.Learnt κs args r exit → is-marked.Learnt κs args r′ exit′ → r ≡ r′
 is-marked-once κs args r r′ exit exit′ = no-second-answer
 
-pub rest-from-once : (κs : _) (args : _) (r r′ : _) (exit exit′ : _) → rest-from.Learnt κs args r exit → rest-from.Learnt κs args r′ exit′ → r .now ≡ r′ .now
-rest-from-once κs args r r′ exit exit′ = no-second-answer
+pub rest-from-once : (κs : _) (args : _) (r r′ : _) (exit exit′ : _) → rest-from.Learnt κs args r exit → rest-from.Learnt κs args r′ exit′ → SamePart r r′
+rest-from-once κs args r r′ exit exit′ = one-part (args .0) _ _ r r′
 
 pub gap-in-once : (κs : _) (args : _) (r r′ : _) (exit exit′ : _) → gap-in.Learnt κs args r exit → gap-in.Learnt κs args r′ exit′ → r ≡ r′
 gap-in-once κs args r r′ exit exit′ l l′ = no-second-answer (l .0) (l′ .0)

@@ -17,6 +17,10 @@ lineLength (x ∷ xs) = suc (cond (eqb x 0x0A) 0 (lineLength xs))
 abbrev pub nextLine : List ℕ → ℕ → ℕ
 nextLine list p = p + lineLength (drop p list)
 
+-- where the rest of a line starts: nothing is left at byte 0 where the line ends before the place
+abbrev pub restStart : List ℕ → ℕ → ℕ
+restStart line p = cond (ltb (length line) p) 0 p
+
 -- LF is the last byte
 abbrev pub endsInLine : List ℕ → Bool
 endsInLine list = eqb (at list (length list - 1)) 0x0A

@@ -5,7 +5,8 @@ ghost use mathlib.Core.Path.{_≡_};
 ghost use Prim.Native.Nat.{_≤_, _<_, min};
 ghost use lib.ListN.{length, drop};
 ghost use Rattle.io.specs.Counts.{Counts};
-ghost use Rattle.fields.specs.Fields.{nextLine, endsInLine, isMarked, gapIn, digitValue, isDigits, isHex, byteOf, decodedCount, decodedInto, numberOf};
+ghost use Rattle.part.specs.Parts.{IsPart};
+ghost use Rattle.fields.specs.Fields.{nextLine, endsInLine, isMarked, restStart, gapIn, digitValue, isDigits, isHex, byteOf, decodedCount, decodedInto, numberOf};
 
 // What a field is that should be a number.
 pub enum Number {
@@ -54,9 +55,9 @@ pub fn is_marked(line: &[u8], letter: u8) -> bool
     line[0] == letter
 }
 
-// What stands on a line from a place on: nothing where it ends before.
+// The part of a line from a place on; its empty part at byte 0 where it ends before.
 pub fn rest_from(line: &[u8], at: usize) -> &[u8]
-    ensures { λ r. ⌜ now r ≡ drop at (now (line .entry)) ⌝ }
+    ensures { λ r. ⌜ IsPart (line .entry) (restStart (now (line .entry)) at) (drop at (now (line .entry))) r ⌝ }
 {
     if line.len() < at {
         return &line[..0];

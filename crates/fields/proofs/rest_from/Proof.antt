@@ -1,10 +1,11 @@
 -- `fields::rest_from` meets its contract: past the end nothing is left. Assumes nothing.
-use mathlib.Core.Path.{sym}
+use mathlib.Core.Path.{refl, sym}
 use native.Mathlib.Omega.{arith}
 use Prim.Native.Nat.{_-_}
 use lib.ListN.{length, drop, length-drop, drop-of-length-le}
 use lib.Seq.{take-all}
 use borrow.Author.Needs.{needs}
+use borrow.Author.Tests.{lt-ltb, le-ltb}
 use Rattle.fields.proofs.rest_from.Statement.{statement}
 use Rattle.fields.proofs.rest_from.Tie as tie
 
@@ -14,7 +15,7 @@ slice-aggregate-result c = search needs
 returns : tie.Need-returns
 returns c =
     let z = c .before .before .args in
-    sym (drop-of-length-le (z .line .now) {i = z .at} (omega arith))
+    (refl, rw (lt-ltb _ _ (c .before .if1 .taken)) (omega arith), sym (drop-of-length-le (z .line .now) {i = z .at} (omega arith)))
 
 sub-result : tie.Need-sub-result
 sub-result c = search needs
@@ -28,7 +29,7 @@ part-result-end c = search needs
 returns-2 : tie.Need-returns-2
 returns-2 c =
     let z = c .before .before .args in
-    take-all (length (z .line .now) - z .at) (drop (z .at) (z .line .now)) (simp length-drop (omega arith))
+    (refl, rw (le-ltb _ _ (c .before .if1 .left)), take-all (length (z .line .now) - z .at) (drop (z .at) (z .line .now)) (simp length-drop (omega arith)))
 
 pub rest-from-spec : {M : Type 1} → statement M
 rest-from-spec =
