@@ -1,4 +1,4 @@
--- Document 01, "Header walk": a block. s is the container, how says how it is read, and p is the block's start, the place of each of its refusals.
+-- Rules H: a block. s is the container, how says how it is read, and p is the block's start, the place of each of its refusals.
 use Prim.Native.Nat.{ℕ, _+_, _-_, _*_, _/_}
 use mathlib.Core.List.{List, [], _∷_}
 use mathlib.Core.Bool.{not, cond}

@@ -1,5 +1,5 @@
 // A block of the header: four letters, a size, and inside it a table or a marker. Each refusal has the block's start as its place.
-// Document 01, "Header walk". From the Rust: `seek_and_check_signature`, `align_stream`, and what `parse_usm_header`,
+// Rules H. From the Rust: `seek_and_check_signature`, `align_stream`, and what `parse_usm_header`,
 // `parse_usm_header_chunks` and `skip_metadata_section` do with each block.
 ghost use mathlib.Core.Path.{_≡_};
 ghost use Prim.Native.Nat.{_+_, _≤_, _<_, _^_};

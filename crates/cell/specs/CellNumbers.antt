@@ -1,4 +1,4 @@
--- Document 01, "@UTF tables": "nothing, a number, a signed number, a float, a string part or a data part", as numbers.
+-- Rules T: "nothing, a number, a signed number, a float, a string part or a data part", as numbers.
 -- "Where an answer is an enum, a definition tells you this paper's number and values for each of its cases."
 use Prim.Native.Nat.{ℕ}
 use lib.Ieee.{binary32, toBits}

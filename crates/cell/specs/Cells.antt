@@ -1,4 +1,4 @@
--- Document 01, "@UTF tables": the value of a cell. Document 02, §5: a cell for which nothing is stored.
+-- Rules T: the value of a cell. Request 5: a cell for which nothing is stored.
 use Prim.Native.Nat.{ℕ, _+_, _-_, _/_, _%_, _^_}
 use mathlib.Core.List.{List}
 use mathlib.Core.Bool.{cond}

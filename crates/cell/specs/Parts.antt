@@ -1,4 +1,4 @@
--- Document 01, "@UTF tables": strings and data in a table's body. "Place p is body byte p - 24."
+-- Rules T: strings and data in a table's body. "Place p is body byte p - 24."
 use Prim.Native.Nat.{ℕ, suc, _+_, _-_}
 use mathlib.Core.List.{List, [], _∷_}
 use mathlib.Core.Bool.{cond}

@@ -1,4 +1,4 @@
--- Document 01, "@UTF tables": "Widths by low nibble, one table of 16 entries".
+-- Rules T: "Widths by low nibble, one table of 16 entries".
 use Prim.Native.Nat.{ℕ}
 use mathlib.Core.List.{List, [], _∷_}
 use lib.ListN.{getD}

@@ -1,5 +1,5 @@
 // A cell of an @UTF table: its type's width, its value, its text or data in the table's body, and the cell as numbers.
-// Document 01, "@UTF tables", and document 02, §5. From the Rust: `read_column_data`, `read_cstring`.
+// Rules T. From the Rust: `read_column_data`, `read_cstring`.
 ghost use mathlib.Core.Path.{_≡_};
 ghost use Prim.Native.Nat.{_+_, _≤_, _<_, _^_};
 ghost use lib.ListN.{length};

@@ -1,4 +1,4 @@
--- The checked examples hold: each definition computes to what document 01 says. Assumes nothing.
+-- The checked examples hold: each definition computes to what the rules say. Assumes nothing.
 use mathlib.Core.Path.{refl}
 use Rattle.laws.specs.Lists.{tab}
 use Rattle.key.specs.KeyTable.{tableBy, tableT, tableV, tableA, keysOf}

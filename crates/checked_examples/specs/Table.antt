@@ -1,4 +1,4 @@
--- Document 01, "Checked examples": P1 to P11.
+-- The checked examples: P1 to P11.
 use Prim.Native.Nat.{ℕ, _^_}
 use mathlib.Core.Path.{_≡_}
 use mathlib.Core.List.{List, [], _∷_, map}
@@ -19,7 +19,7 @@ use Rattle.codec.specs.Codecs.{codecOf}
 use Rattle.codec.specs.Kinds.{videoKind}
 use Rattle.codec.specs.Numbers.{valueOf, videoNumber}
 
--- what a definition answers, and what document 01 says it is
+-- what a definition answers, and what the rules say it is
 pub record Example : Type 0 where
   pub number : ℕ
   pub answer : List ℕ

@@ -1,1 +1,1 @@
-// Document 01's checked examples, as one table of definitions' answers under one theorem. No code.
+// The checked examples, as one table of definitions' answers under one theorem. No code.

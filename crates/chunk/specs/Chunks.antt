@@ -1,4 +1,4 @@
--- Document 01, "Chunks": what stands at a place c of a container, and the payload.
+-- Rules C: what stands at a place c of a container, and the payload.
 use Prim.Native.Nat.{ℕ, _+_, _-_}
 use mathlib.Core.List.{List, []}
 use mathlib.Core.Bool.{Bool, true, false, cond}

@@ -1,4 +1,4 @@
--- Document 01, "Chunks": what the opening of a chunk at c says. It has the 45 bytes that every chunk has.
+-- Rules C: what the opening of a chunk at c says. It has the 45 bytes that every chunk has.
 use Prim.Native.Nat.{ℕ, _+_, _%_}
 use mathlib.Core.List.{List}
 use mathlib.Core.Bool.{cond}

@@ -1,4 +1,4 @@
-// One chunk of a container, and its payload as a part of the container. Document 01, "Chunks".
+// One chunk of a container, and its payload as a part of the container. Rules C.
 // From the Rust: `read_chunk_header`, `read_data_len`, and which chunks `extract_usm_chunks_to_memory` takes.
 ghost use mathlib.Core.Path.{_≡_};
 ghost use Prim.Native.Nat.{_+_, _≤_, _<_, _^_};

@@ -1,4 +1,4 @@
--- Which sound clips tell two keys apart. Ours: document 02 asks whether two keys can be compared on a clip.
+-- Which sound clips tell two keys apart. Ours: request 7 asks whether two keys can be compared on a clip.
 use Prim.Native.Nat.{ℕ, zero, suc, _%_}
 use mathlib.Core.Bool.{Bool, false, not, _&&_, _||_}
 use lib.Dec.{eqb}

@@ -1,5 +1,5 @@
 // How short a sound clip tells two keys apart. A clip is one ADX payload of data type 0.
-// Document 02, request 7. Ours: the Rust has nothing of the kind.
+// Request 7. Ours: the Rust has nothing of the kind.
 ghost use mathlib.Core.Path.{_≡_};
 ghost use Rattle.mask.specs.Positions.{lanesShown};
 ghost use Rattle.clip.specs.Clips.{laneTells, clipTells};

@@ -1,4 +1,4 @@
--- Document 01, "@UTF tables": a codec.
+-- Rules T: a codec.
 use Prim.Native.Nat.{_%_, _^_}
 use Rattle.cell.specs.declared.Cell.{Cell}
 use Rattle.cell.specs.declared.Cell.the-variants.{Nothing, Unsigned, Signed, Float, NotANumber, Text, Data}

@@ -1,4 +1,4 @@
--- Document 01, "Refusal numbers": the kinds that success returns.
+-- Rules R: the kinds that success returns.
 use mathlib.Core.Bool.{cond}
 use lib.Dec.{eqb}
 use Rattle.codec.specs.declared.Codec.{Codec}

@@ -1,4 +1,4 @@
--- A codec and a kind as numbers. Ours, beyond document 01: it says that a codec "may be absent", and has the kinds by name.
+-- A codec and a kind as numbers. Ours, beyond the rules: it says that a codec "may be absent", and has the kinds by name.
 use Prim.Native.Nat.{ℕ}
 use Rattle.codec.specs.declared.Codec.{Codec}
 use Rattle.codec.specs.declared.Codec.the-variants.{Value, Absent}

@@ -1,5 +1,5 @@
 // A codec: what a cell of a table says of the stream, and the kind of stream that follows.
-// Document 01, "@UTF tables" and "Refusal numbers". From the Rust: `utf_first_u32`, `video_ext`, `audio_ext`.
+// Rules T and R. From the Rust: `utf_first_u32`, `video_ext`, `audio_ext`.
 ghost use mathlib.Core.Path.{_≡_};
 ghost use Rattle.cell.specs.Cells.{bitsOf};
 ghost use Rattle.codec.specs.Codecs.{codecOf};

@@ -1,4 +1,4 @@
--- Document 01, "@UTF tables": a column. b is the table's body, l its layout.
+-- Rules T: a column. b is the table's body, l its layout.
 use Prim.Native.Nat.{ℕ, _+_, _%_}
 use mathlib.Core.List.{List}
 use mathlib.Core.Bool.{cond}

@@ -1,4 +1,4 @@
--- Document 01, "@UTF tables", and document 02, §5: where a column has its values, by its type byte; and what it takes there.
+-- Rules T: where a column has its values, by its type byte; and what it takes there.
 -- m is the table's mode, b its body, l its layout.
 use Prim.Native.Nat.{ℕ, _+_, _/_, _%_}
 use mathlib.Core.List.{List}
@@ -17,8 +17,8 @@ use Rattle.cell.specs.Cells.{cellAt, zeroCell}
 use Rattle.column.specs.declared.Storage.{Storage}
 use Rattle.column.specs.declared.Storage.the-variants.{Constant, Stored, Zero, Unknown}
 
--- document 01, as the Rust does: "Every other nibble, 1 included, is stored per row"
--- document 02: "a table mode where high nibble 1 stores nothing"; "In this mode nibbles 1, 3, 5 and 7 are the only kinds."
+-- rules T, as the Rust does: "Every other nibble, 1 included, is stored per row"
+-- request 5: "a table mode where high nibble 1 stores nothing"; "In this mode nibbles 1, 3, 5 and 7 are the only kinds."
 abbrev pub otherStorage : TableMode → ℕ → Storage
 otherStorage Original nibble = Stored
 otherStorage ZeroColumns nibble = cond (eqb nibble 1) Zero (cond (eqb nibble 5) Stored Unknown)

@@ -1,5 +1,5 @@
 // A column of an @UTF table: where its values stand, the place of its name, its type and its constant.
-// Document 01, "@UTF tables", and document 02, §5. From the Rust: the column loop of `get_utf_table`.
+// Rules T. From the Rust: the column loop of `get_utf_table`.
 ghost use mathlib.Core.Path.{_≡_};
 ghost use Prim.Native.Nat.{_+_, _%_, _≤_, _<_};
 ghost use lib.ListN.{length};

@@ -1,4 +1,4 @@
--- Document 01, "Refusal numbers": extraction. "11 comes first; then the walk's first refusal in reading order; then, for extraction, 14 before 12".
+-- Rules R: extraction. "11 comes first; then the walk's first refusal in reading order; then, for extraction, 14 before 12".
 use Prim.Native.Nat.{ℕ, _+_}
 use mathlib.Core.Path.{_≡_}
 use mathlib.Core.List.{List, []}

@@ -74,7 +74,7 @@ OneFilmWhereBitsAgree =
     → (r ≡ r′) × (videoAfter ≡ videoAfter′) × (audioAfter ≡ audioAfter′)
 
 -- "the streams under two keys differ exactly where the payload law says, payload by payload": after two results on one container, into the same outputs, a
--- video payload of data type 0 and at least 0x240 bytes differs by D where document 01 says so, and nothing else of the payload differs. It stands where the
+-- video payload of data type 0 and at least 0x240 bytes differs by D where the rules say so, and nothing else of the payload differs. It stands where the
 -- payloads before it end
 abbrev pub VideoDiffersPayloadByPayload : Type 0
 VideoDiffersPayloadByPayload =

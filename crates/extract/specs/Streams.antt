@@ -1,4 +1,4 @@
--- Document 01, "Chunks": "`@SFV` payloads go to video, `@SFA` to audio". A stream is what its payloads give, one after the other.
+-- Rules C: "`@SFV` payloads go to video, `@SFA` to audio". A stream is what its payloads give, one after the other.
 use mathlib.Core.List.{List, []}
 use Prim.Native.Nat.{ℕ}
 use Rattle.chunk.specs.declared.Chunk.{Chunk}

@@ -1,6 +1,6 @@
 // Both streams of a film, written into lent outputs. What is answered is decided before a byte is written, so a refusal
 // leaves both outputs as they were.
-// Document 01, "Refusal numbers" and "Chunks". From the Rust: `extract_usm_to_memory`, `extract_usm_chunks_to_memory`
+// Rules R and C. From the Rust: `extract_usm_to_memory`, `extract_usm_chunks_to_memory`
 // and `read_usm_chunk_into`.
 ghost use mathlib.Core.Path.{_≡_};
 ghost use mathlib.Core.Bool.{_||_};
@@ -129,7 +129,7 @@ fn write_streams(
     }
 }
 
-// Whether two sizes together exceed a third. No film's do; the test stays as long as document 01 has number 14.
+// Whether two sizes together exceed a third. No film's do; the test stays as long as the rules have number 14.
 fn exceed(some: usize, others: usize, whole: usize) -> bool
     ensures { λ r. ⌜ r ≡ ltb whole (some + others) ⌝ }
 {

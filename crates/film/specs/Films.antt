@@ -1,4 +1,4 @@
--- Document 01, "Refusal numbers": a container as a whole. "11 comes first; then the walk's first refusal in reading order".
+-- Rules R: a container as a whole. "11 comes first; then the walk's first refusal in reading order".
 use mathlib.Core.List.{List}
 use Prim.Native.Nat.{ℕ}
 use lib.ListN.{length}

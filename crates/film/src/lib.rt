@@ -1,5 +1,5 @@
 // A film: what its header says, and its chunks from where the header ends, measured.
-// Document 01, "Refusal numbers": 11 first, "then the walk's first refusal in reading order".
+// Rules R: 11 first, "then the walk's first refusal in reading order".
 // From the Rust: `extract_usm_to_memory`, up to where it takes the bytes.
 ghost use mathlib.Core.Path.{_≡_};
 ghost use Rattle.film.specs.Films.{surveyOf, filmFrom, filmOf};

@@ -1,4 +1,4 @@
--- Document 01, "@UTF tables" and "Refusal numbers": the name.
+-- Rules T and R: the name.
 use Prim.Native.Nat.{ℕ}
 use mathlib.Core.List.{List}
 use denote.Ref.{RefT, now}

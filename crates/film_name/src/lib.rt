@@ -1,4 +1,4 @@
-// A film's name: a string or data of its header, or the fallback. Document 01, "@UTF tables" and "Refusal numbers".
+// A film's name: a string or data of its header, or the fallback. Rules T and R.
 // From the Rust: `extract_filename`.
 ghost use mathlib.Core.Path.{_≡_};
 ghost use Rattle.film_name.specs.Names.{nameIn, NameOf};

@@ -1,4 +1,4 @@
--- Document 01's F, whole and cut, and a film of such blocks with audio: read to their chunks, by computing. Assumes nothing.
+-- Example F, whole and cut, and a film of such blocks with audio: read to their chunks, by computing. Assumes nothing.
 use Prim.Native.Nat.{ℕ, zero, suc}
 use mathlib.Core.Path.{_≡_, refl}
 use mathlib.Core.List.{List, [], _∷_, _++_, map}

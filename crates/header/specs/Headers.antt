@@ -1,4 +1,4 @@
--- Document 01, "Header walk": steps 1 to 8, and refusal 11, which "comes first". s is the container,
+-- Rules H: steps 1 to 8, and refusal 11, which "comes first". s is the container,
 -- how says how it is read, p is the start of a step's block.
 -- Each step goes on to the next, so they stand here from the last to the first.
 use Prim.Native.Nat.{ℕ}

@@ -1,5 +1,5 @@
 // The header walk: what a container says of its film, and where its chunks begin.
-// Document 01, "Header walk", whose steps 1 to 8 are a function each, from the last to the first, since each goes on to the next.
+// Rules H, whose steps 1 to 8 are a function each, from the last to the first, since each goes on to the next.
 // From the Rust: `parse_usm_header`, `parse_usm_header_chunks`, `skip_metadata_section`.
 ghost use mathlib.Core.Path.{_≡_};
 ghost use Rattle.header.specs.Headers.{step8, step7Audio, step7Video, step7Table, step7, step6, step5, step4, finish, step3Audio, step3, step2, step1, headerOf};

@@ -1,4 +1,4 @@
--- The bits of a key that count, and where T shows them. Ours, beyond document 01: it names them only as what keys must agree in.
+-- The bits of a key that count, and where T shows them. Ours, beyond the rules: it names them only as what keys must agree in.
 use Prim.Native.Nat.{ℕ, _+_, _*_, _/_, _%_, _^_, _<_}
 use mathlib.Core.Path.{_≡_}
 use Rattle.laws.specs.Lists.{at}

@@ -1,4 +1,4 @@
--- Document 01, "Key table and masks": the key table.
+-- Rules K and M: the key table.
 use Prim.Native.Nat.{ℕ, _+_, _-_, _/_, _%_, _^_}
 use mathlib.Core.List.{List, [], _∷_}
 use mathlib.Core.Bool.{cond}

@@ -1,5 +1,5 @@
 // The key table: T, V and A of a 64-bit key, and the bits of a key that count.
-// Document 01, "Key table and masks". From the Rust: `get_mask`.
+// Rules K and M. From the Rust: `get_mask`.
 ghost use mathlib.Core.Path.{_≡_};
 ghost use Rattle.key.specs.KeyTable.{plus, minus, tableT, keysOf};
 ghost use Rattle.key.specs.CountingBits.{countingBits};
@@ -25,7 +25,7 @@ fn sub(a: u8, b: u8) -> u8
     std::num::wrapping_sub_u8(a, b)
 }
 
-// T of a key: document 01's list, line by line.
+// T of a key: the list, line by line.
 fn table_t(key: u64) -> [u8; 32]
     ensures { λ r. ⌜ r ≡ tableT key ⌝ }
 {

@@ -1,4 +1,4 @@
--- Document 01, "@UTF tables": the header. "32 header bytes: `@UTF`, size u32, version u16, row offset u16, string offset u32,
+-- Rules T: the header. "32 header bytes: `@UTF`, size u32, version u16, row offset u16, string offset u32,
 -- data offset u32, table name u32, columns u16, row size u16, rows u32." t is the slice from the table's start on,
 -- m says how its columns are read.
 use Prim.Native.Nat.{ℕ, _+_, _-_}

@@ -1,5 +1,5 @@
 // The layout of an @UTF table: what its header says, read once. Cells, columns, rows and look-ups go by it.
-// Document 01, "@UTF tables". From the Rust: the first reads of `get_utf_table`.
+// Rules T. From the Rust: the first reads of `get_utf_table`.
 ghost use mathlib.Core.Path.{_≡_};
 ghost use Prim.Native.Nat.{_<_, _^_};
 ghost use Rattle.layout.specs.Layouts.{startOf, countedIn, layoutIn};

@@ -1,4 +1,4 @@
--- The lines that document 01 prints of example F, and that of F cut to 300 bytes, by computation. Assumes nothing.
+-- The lines that the rules print of example F, and that of F cut to 300 bytes, by computation. Assumes nothing.
 use mathlib.Core.Path.{_≡_, refl}
 use mathlib.Core.List.{[], _∷_}
 use Rattle.refusal.specs.declared.Cause.the-variants.{RanOut}

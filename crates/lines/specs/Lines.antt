@@ -1,4 +1,4 @@
--- Document 01, "Chunks": the lines that the program prints. Bytes are ASCII.
+-- Rules C: the lines that the program prints. Bytes are ASCII.
 use Prim.Native.Nat.{ℕ}
 use mathlib.Core.List.{List, [], _∷_, _++_}
 use mathlib.Core.Bool.{cond}

@@ -1,5 +1,5 @@
 // From the bytes of a container to lines of text: one for each chunk, or the one of the refusal.
-// Document 01, "Chunks": what the program prints. No function of the Rust prints. `show` reads and writes.
+// Rules C: what the program prints. No function of the Rust prints. `show` reads and writes.
 ghost use mathlib.Core.Path.{_≡_};
 ghost use Prim.Native.Nat.{_+_, _≤_, _<_, _^_};
 ghost use lib.ListN.{length};

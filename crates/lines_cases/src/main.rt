@@ -1,4 +1,4 @@
-// Prints the lines of stored containers, each below its title: document 01's example F, whole, cut and
+// Prints the lines of stored containers, each below its title: example F, whole, cut and
 // padded, chunks of every kind, refusals, and F's payloads. The gate compares them with the file stdout.
 use libc::STDOUT_FILENO;
 use reading::Applied;

@@ -1,4 +1,4 @@
--- Document 01, "Chunks": listing. It "fills a lent list of chunk records: start, kind, data type, payload length (0 if skipped)."
+-- Rules C: listing. It "fills a lent list of chunk records: start, kind, data type, payload length (0 if skipped)."
 use Prim.Native.Nat.{ℕ}
 use mathlib.Core.Path.{_≡_}
 use mathlib.Core.List.{List, [], map}

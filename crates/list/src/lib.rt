@@ -1,4 +1,4 @@
-// A listing of a film's chunks: what it answers, and each chunk as a record of plain numbers. Document 01, "Chunks".
+// A listing of a film's chunks: what it answers, and each chunk as a record of plain numbers. Rules C.
 // No function of the Rust lists chunks; its `read_chunk_header` reads one. `usm::usm_list` fills a lent list by what is here.
 ghost use mathlib.Core.Path.{_≡_};
 ghost use Rattle.film.specs.Films.{surveyOf, filmOf};

@@ -1,4 +1,4 @@
--- Document 01, "@UTF tables": "for a name and row, that cell, or nothing where no column has the name or no such row exists".
+-- Rules T: "for a name and row, that cell, or nothing where no column has the name or no such row exists".
 -- b is the table's body, which starts at byte `by` of the slice that holds the table; l is the table's layout.
 use Prim.Native.Nat.{ℕ, _+_, _*_, _-_}
 use mathlib.Core.List.{List}
@@ -56,7 +56,7 @@ abbrev pub moved : ℕ → CellAnswer → CellAnswer
 moved by (Got c) = Got (shifted by c)
 moved by (Refused why) = Refused why
 
--- document 02, §5: a zero cell is no part of the body; "empty" starts at 0
+-- request 5: a zero cell is no part of the body; "empty" starts at 0
 abbrev pub shiftIn : Storage → ℕ → ℕ
 shiftIn Constant by = by
 shiftIn Stored by = by

@@ -1,4 +1,4 @@
--- Document 01, "@UTF tables": "Names compare byte by byte".
+-- Rules T: "Names compare byte by byte".
 use Prim.Native.Nat.{ℕ, _+_}
 use mathlib.Core.List.{List, [], _∷_}
 use mathlib.Core.Bool.{Bool, false, cond}

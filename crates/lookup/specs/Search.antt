@@ -1,4 +1,4 @@
--- Document 01, "@UTF tables": "Of columns with one name the last counts."
+-- Rules T: "Of columns with one name the last counts."
 -- b is the table's body, l its layout.
 use Prim.Native.Nat.{ℕ, zero, suc, _+_, _-_}
 use mathlib.Core.List.{List}

@@ -1,5 +1,5 @@
 // A cell of an @UTF table by its column's name and its row.
-// Document 01, "@UTF tables", and document 02, §5. From the Rust: the rows of `get_utf_table`, which it keeps as maps by name.
+// Rules T. From the Rust: the rows of `get_utf_table`, which it keeps as maps by name.
 ghost use mathlib.Core.Path.{_≡_};
 ghost use Prim.Native.Nat.{_+_, _-_, _*_, _≤_, _<_, _^_};
 ghost use lib.ListN.{length};

@@ -1,4 +1,4 @@
--- Document 01, "Key table and masks": audio.
+-- Rules K and M: audio.
 use Prim.Native.Nat.{ℕ, _%_}
 use mathlib.Core.List.{List}
 use mathlib.Core.Bool.{cond}

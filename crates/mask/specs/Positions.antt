@@ -1,4 +1,4 @@
--- Document 01, "Positions for demand 3".
+-- Rules D.
 use Prim.Native.Nat.{ℕ, _-_, _/_, _%_, min}
 use mathlib.Core.Bool.{Bool, false, cond, _||_}
 use lib.Bits.{bitXor}

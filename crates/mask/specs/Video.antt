@@ -1,4 +1,4 @@
--- Document 01, "Key table and masks": video.
+-- Rules K and M: video.
 use Prim.Native.Nat.{ℕ, zero, suc, _+_, _*_, _-_, _/_, _%_}
 use mathlib.Core.List.{List}
 use mathlib.Core.Bool.{cond}

@@ -1,5 +1,5 @@
 // Video and audio payloads, unmasked and masked in place, of any length.
-// Document 01, "Key table and masks". From the Rust: `mask_video` and `mask_audio`, which unmask,
+// Rules K and M. From the Rust: `mask_video` and `mask_audio`, which unmask,
 // and `apply_video_mask` and `apply_audio_mask`, which mask a copy.
 ghost use mathlib.Core.Path.{_≡_};
 ghost use Prim.Native.Nat.{_≤_, _<_};

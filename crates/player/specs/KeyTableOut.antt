@@ -1,4 +1,4 @@
--- Document 01, "What is built": "The key table puts T, V, A in a buffer's first 96 bytes and gives 96; a shorter buffer stays and gives 0."
+-- Rules K: "The key table puts T, V, A in a buffer's first 96 bytes and gives 96; a shorter buffer stays and gives 0."
 use Prim.Native.Nat.{ℕ}
 use mathlib.Core.List.{List, _++_}
 use mathlib.Core.Bool.{cond}

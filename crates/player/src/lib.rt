@@ -1,5 +1,5 @@
 // Five functions for a C player: the key table, and video and audio payloads unmasked and masked in place.
-// Document 01, "What is built". Declared for C in include/usm.h; `rt staticlib player` builds the library.
+// Rules K. Declared for C in include/usm.h; `rt staticlib player` builds the library.
 ghost use mathlib.Core.Path.{_≡_};
 ghost use lib.ListN.{length};
 ghost use Rattle.key.specs.KeyTable.{keysOf};

@@ -1,4 +1,4 @@
--- Document 01, "Chunks": "`@SFA` to audio if present and chosen". Document 02, §5: "Add a table mode"; "The Rust's mode stays".
+-- Rules C: "`@SFA` to audio if present and chosen". request 5: "Add a table mode"; "The Rust's mode stays".
 use Prim.Native.Nat.{ℕ}
 use mathlib.Core.Bool.{Bool, true, false, cond}
 use lib.Dec.{eqb}

@@ -1,5 +1,5 @@
 // How a container is read: what a caller asks for, and what of it applies to one film. Both go by value.
-// Document 01, "Chunks": audio is taken "if present and chosen". Document 02, §5: how a table's columns are read.
+// Rules C: audio is taken "if present and chosen". request 5: how a table's columns are read.
 ghost use mathlib.Core.Path.{_≡_};
 ghost use Rattle.reading.specs.Choices.{isChosen, choiceBy, modeBy, readingBy, appliedTo};
 

@@ -1,4 +1,4 @@
--- Document 01, "Refusal numbers": the number of each cause, and what is "also returned". 18 is document 02's, §5.
+-- Rules R: the number of each cause, and what is "also returned". 18 is request 5's.
 use Prim.Native.Nat.{ℕ}
 use Rattle.refusal.specs.declared.Beside.{Beside}
 use Rattle.refusal.specs.declared.Cause.{Cause}

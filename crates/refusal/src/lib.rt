@@ -1,8 +1,8 @@
-// Why a table or a container is refused, and where. Document 01, "Refusal numbers"; document 02 has those from 15 on.
+// Why a table or a container is refused, and where. Rules R.
 ghost use mathlib.Core.Path.{_≡_};
 ghost use Rattle.refusal.specs.Numbers.{numberOf, besideOf};
 
-// Why. The cases stand in the order of the papers' numbers, 1 to 14 and 18.
+// Why. The cases stand in the order of their numbers, 1 to 14 and 18.
 pub enum Cause {
     // Bytes run out.
     RanOut,

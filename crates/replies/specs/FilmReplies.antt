@@ -1,4 +1,4 @@
--- The reply on a film, field by field. Ours, beyond document 01, as TableReplies are.
+-- The reply on a film, field by field. Ours, beyond the rules, as TableReplies are.
 use Prim.Native.Nat.{ℕ}
 use mathlib.Core.Bool.{Bool, true, false}
 use Rattle.refusal.specs.Numbers.{numberOf, besideOf}

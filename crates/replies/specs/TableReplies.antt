@@ -1,4 +1,4 @@
--- The replies on a table and on a cell, field by field. Ours, beyond document 01: it has the numbers and what is also returned, and names no struct.
+-- The replies on a table and on a cell, field by field. Ours, beyond the rules: it has the numbers and what is also returned, and names no struct.
 use Rattle.refusal.specs.Numbers.{numberOf, besideOf}
 use Rattle.cell.specs.CellNumbers.{caseOf, valueOf, lengthOf}
 use Rattle.lookup.specs.declared.Lookup.{Lookup}

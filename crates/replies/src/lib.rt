@@ -1,5 +1,5 @@
 // Answers as C reads them: one struct for each, with a name for each thing in it. What has no meaning in an answer is 0.
-// Ours, beyond document 01: it has the numbers and what is also returned, and names no struct. A listing's reply is in `list`.
+// Ours, beyond the rules: it has the numbers and what is also returned, and names no struct. A listing's reply is in `list`.
 ghost use mathlib.Core.Path.{_≡_};
 ghost use Rattle.replies.specs.TableReplies.{tableReply, cellReply};
 ghost use Rattle.replies.specs.FilmReplies.{bitOf, nameSource, nameStart, nameLength, contentsReply, filmReply};

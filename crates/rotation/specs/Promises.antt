@@ -1,4 +1,4 @@
--- Document 02, request 11, "Changing keys over and over": one statement each. Each is proved under the same name in proofs/Promises.antt.
+-- Request 11, "Changing keys over and over": one statement each. Each is proved under the same name in proofs/Promises.antt.
 use Prim.Native.Nat.{ℕ}
 use mathlib.Core.Path.{_≡_}
 use mathlib.Core.List.{List, _∷_, _++_, foldr, Perm}

@@ -1,1 +1,1 @@
-// What holds when a film's key is changed over and over: laws over the functions of `mask`. Document 02, request 11. No code.
+// What holds when a film's key is changed over and over: laws over the functions of `mask`. Request 11. No code.

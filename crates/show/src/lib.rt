@@ -1,4 +1,4 @@
-// The lines of a container, printed: the reading and writing of the programs that show chunks. Document 01, "Chunks".
+// The lines of a container, printed: the reading and writing of the programs that show chunks. Rules C.
 //
 // No contract can say what is written, so the functions here have none. What is written is decided by
 // `lines::lines`, which has one.

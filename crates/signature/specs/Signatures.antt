@@ -1,4 +1,4 @@
--- Document 01, "Header walk" and "Chunks": the letters, as big-endian numbers, and the markers.
+-- Rules H and C: the letters, as big-endian numbers, and the markers.
 use Prim.Native.Nat.{ℕ}
 use mathlib.Core.List.{List, [], _∷_}
 use mathlib.Core.Bool.{Bool, true, false, _&&_}

@@ -1,4 +1,4 @@
-// The letters and markers by which blocks and chunks are told. Document 01, "Header walk" and "Chunks".
+// The letters and markers by which blocks and chunks are told. Rules H and C.
 ghost use mathlib.Core.Path.{_≡_};
 ghost use Rattle.signature.specs.Signatures.{sameBytes, standsAt};
 

@@ -1,4 +1,4 @@
--- Document 01, "@UTF tables": a table. Its refusals are those of its layout, then those of its columns and rows.
+-- Rules T: a table. Its refusals are those of its layout, then those of its columns and rows.
 use Prim.Native.Nat.{ℕ}
 use mathlib.Core.List.{List}
 use lib.ListN.{drop}

@@ -1,4 +1,4 @@
--- Document 01, "@UTF tables", the order: "each column", "Then all rows, column by column, from the row offset."
+-- Rules T, the order: "each column", "Then all rows, column by column, from the row offset."
 -- b is the table's body, l its layout.
 use Prim.Native.Nat.{ℕ, zero, suc, _+_, _%_}
 use mathlib.Core.List.{List}

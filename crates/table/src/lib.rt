@@ -1,5 +1,5 @@
-// An @UTF table: all of its columns and then all of its rows are checked, in document 01's order of refusals.
-// Document 01, "@UTF tables", and document 02, §5. From the Rust: `get_utf_table`.
+// An @UTF table: all of its columns and then all of its rows are checked, in the order of refusals.
+// Rules T. From the Rust: `get_utf_table`.
 //
 // A text is fine where a zero byte stands at or after its start in the body. With `ends`, one past the body's last zero,
 // that is one comparison, so the walk searches no text and costs a little for each column and each cell.

@@ -1,4 +1,4 @@
--- Document 01, "Chunks": a payload "is unmasked only with a key and data type 0, audio only if `audio_codec` is 2."
+-- Rules C: a payload "is unmasked only with a key and data type 0, audio only if `audio_codec` is 2."
 use Prim.Native.Nat.{ℕ}
 use mathlib.Core.List.{List}
 use mathlib.Core.Bool.{Bool, true, false, cond, _&&_}

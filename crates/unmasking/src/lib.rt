@@ -1,5 +1,5 @@
 // Which payloads of a film are masked, and such a payload made clear in place.
-// Document 01, "Chunks". From the Rust: the masks that `extract_usm_to_memory` chooses, and `read_usm_chunk_into`.
+// Rules C. From the Rust: the masks that `extract_usm_to_memory` chooses, and `read_usm_chunk_into`.
 ghost use mathlib.Core.Path.{_≡_};
 ghost use Rattle.unmasking.specs.Unmasking.{keyBy, isAdx, isMasked, unmaskingOf, clearVideo, clearAudio};
 use codec::Codec;

@@ -1,4 +1,4 @@
--- A film through C: what is replied, and both outputs after it. Ours, beyond document 01.
+-- A film through C: what is replied, and both outputs after it. Ours, beyond the rules.
 use Prim.Native.Nat.{ℕ}
 use mathlib.Core.Path.{_≡_}
 use mathlib.Core.List.{List}

@@ -1,4 +1,4 @@
--- The chunks of document 01's example F, measured by computation: 32 bytes of video, then the end chunk. Assumes nothing.
+-- The chunks of example F, measured by computation: 32 bytes of video, then the end chunk. Assumes nothing.
 use Prim.Native.Nat.{ℕ}
 use mathlib.Core.Path.{_≡_, refl}
 use mathlib.Core.List.{List, _∷_, _++_}

@@ -1,4 +1,4 @@
--- Document 01, "Chunks": the chunks of a container from a place on, how they end, and what they come to.
+-- Rules C: the chunks of a container from a place on, how they end, and what they come to.
 use Prim.Native.Nat.{ℕ, zero, suc, _+_, _-_}
 use mathlib.Core.List.{List, [], _∷_, _++_}
 use lib.ListN.{length}

@@ -1,5 +1,5 @@
 // The chunks of a container, one after the other: how many there are, and how many bytes both streams have.
-// Document 01, "Chunks". From the Rust: the loop of `extract_usm_chunks_to_memory`.
+// Rules C. From the Rust: the loop of `extract_usm_chunks_to_memory`.
 mod ahead;
 
 ghost use mathlib.Core.Path.{_≡_};

@@ -1,4 +1,4 @@
--- Document 01, "@UTF tables": "Big-endian throughout." A byte past the end reads as 0.
+-- Rules T: "Big-endian throughout." A byte past the end reads as 0.
 use Prim.Native.Nat.{ℕ, _+_, _*_, _^_}
 use mathlib.Core.List.{List}
 use Rattle.laws.specs.Lists.{at}

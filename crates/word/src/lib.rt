@@ -1,6 +1,6 @@
 // Bytes and big-endian numbers at a place of a slice. A byte past the end reads as 0, so every place has an answer:
 // whether enough bytes are there is another question, which `left_from` answers.
-// Document 01, "@UTF tables": "Big-endian throughout." From the Rust: the reads of `reader.rs`.
+// Rules T: "Big-endian throughout." From the Rust: the reads of `reader.rs`.
 ghost use mathlib.Core.Path.{_≡_};
 ghost use Prim.Native.Nat.{_+_, _-_, _≤_, _<_, _^_};
 ghost use lib.ListN.{length};
