@@ -57,7 +57,8 @@ pub fn run(task: &impl Task, films: &Films) -> Status {
     let workers = if films.jobs { thread::available_parallelism().map_or(1, usize::from) } else { 1 };
     thread::scope(|scope| {
         for _ in 1..workers.min(sources.len()) {
-            scope.spawn(work);
+            // Where there is no thread to be had, those that there are do the work.
+            thread::Builder::new().spawn_scoped(scope, work).ok();
         }
         work();
     });
@@ -183,7 +184,7 @@ pub struct Told<'a, 'c> {
 impl<'a> Told<'a, '_> {
     /// A note about a film, to standard error.
     pub fn note(&self, label: &Path, note: &str) {
-        self.crew.progress.say(&format!("usm: {}: {note}", Shown::path(label)));
+        self.crew.progress.say(&format!("{}: {note}", Shown::path(label)));
     }
 
     /// Does the rest of a film.

@@ -1,6 +1,6 @@
 //! `usm extract`: both streams of films as files.
 
-use std::collections::HashMap;
+use std::collections::{HashMap, HashSet};
 use std::fs;
 use std::io;
 use std::path::{Path, PathBuf};
@@ -11,7 +11,7 @@ use serde::Serialize;
 use usm::{Audio, Outline, Reading};
 
 use crate::crew::{self, Film, Task, Turn};
-use crate::films::{Films, make_room};
+use crate::films::{Films, make_room, sources};
 use crate::key;
 use crate::names::{Shown, safe};
 use crate::output::{About, AsHex, AsText, Output, as_string, say, tell};
@@ -66,7 +66,9 @@ impl Extract {
             return say(Status::Trouble, &format!("{}: {error}", Shown::path(folder)));
         }
         let audio = if self.no_audio { Audio::None } else { Audio::All };
+        let films = sources(&self.films.files);
         let extraction = Extraction {
+            films: films.iter().filter_map(|film| film.label().canonicalize().ok()).collect(),
             key: key.map(|key| key.number),
             reading: Reading::default().with_audio(audio),
             written: Mutex::default(),
@@ -80,6 +82,8 @@ struct Extraction {
     told: Extract,
     key: Option<u64>,
     reading: Reading,
+    /// The films of this run.
+    films: HashSet<PathBuf>,
     /// The files of this run, each with the film that it is of.
     written: Mutex<HashMap<PathBuf, PathBuf>>,
 }
@@ -132,7 +136,7 @@ impl Extraction {
         }
     }
 
-    /// Gives a film's files their names. A file of another film of this run is not replaced, even by force.
+    /// Gives a film's files their names. Neither a film of this run nor a file that it wrote is replaced, even by force.
     fn place(&self, label: &Path, pair: &Pair, targets: &[PathBuf]) -> Result<(), Trouble> {
         let mut written = self.written.lock().unwrap_or_else(PoisonError::into_inner);
         let places = targets.iter().map(|target| whole(target)).collect::<io::Result<Vec<_>>>();
@@ -141,6 +145,9 @@ impl Extraction {
             if let Some(other) = written.get(place) {
                 let what = format!("this run wrote it for {}", Shown::path(other));
                 return Err(Trouble::with(target, what));
+            }
+            if self.films.contains(place) {
+                return Err(Trouble::with(target, "it is a film of this run"));
             }
         }
         pair.place(self.told.force)?;

@@ -89,8 +89,9 @@ pub fn write_all(write: impl FnOnce(&mut Output) -> Result<(), Trouble>) -> Stat
     }
 }
 
+/// Tells something on standard error. That this can't be written is no reason to stop.
 pub fn say(status: Status, what: &str) -> Status {
-    eprintln!("usm: {what}");
+    writeln!(io::stderr(), "usm: {what}").ok();
     status
 }
 

@@ -6,6 +6,7 @@ use std::path::{Path, PathBuf};
 use std::process;
 use std::sync::atomic::{AtomicUsize, Ordering};
 
+use crate::names::Shown;
 use crate::progress::Meter;
 use crate::trouble::Trouble;
 
@@ -61,7 +62,7 @@ fn undo(placed: &[Placed], failed: &Complete, error: io::Error) -> Trouble {
     let mut what = failed_to(error);
     for one in placed.iter().rev() {
         if let Err(error) = one.undo() {
-            what = format!("{what}; and {} can't be undone: {error}", one.target.display());
+            what = format!("{what}; and {} can't be undone: {error}", Shown::path(one.target));
         }
     }
     Trouble::with(&failed.target, what)

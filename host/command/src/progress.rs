@@ -3,12 +3,17 @@
 use std::cell::Cell;
 use std::io::{IsTerminal, stderr};
 use std::sync::mpsc::{RecvTimeoutError, Sender, channel};
-use std::thread::JoinHandle;
+use std::thread::{self, JoinHandle};
 use std::time::Duration;
 
 use indicatif::{ProgressBar, ProgressDrawTarget, ProgressStyle};
 
+use crate::output::say;
+use crate::trouble::Status;
+
 const BEFORE_IT_SHOWS: Duration = Duration::from_secs(1);
+const WITH_TOTAL: &str = "{wide_bar} {bytes} of {total_bytes}, {bytes_per_sec}, {eta} left";
+const WITHOUT_TOTAL: &str = "{spinner} {bytes}, {bytes_per_sec}, {elapsed}";
 const BETWEEN_DRAWS: Duration = Duration::from_millis(200);
 
 /// The progress of a run, in bytes of films.
@@ -21,18 +26,15 @@ impl Progress {
     /// Of so many bytes, where that is known.
     pub fn new(total: Option<u64>) -> Progress {
         let bar = ProgressBar::with_draw_target(total, ProgressDrawTarget::hidden());
-        let template = match total {
-            Some(_) => "{wide_bar} {bytes} of {total_bytes}, {bytes_per_sec}, {eta} left",
-            None => "{spinner} {bytes}, {bytes_per_sec}, {elapsed}",
-        };
+        let template = if total.is_some() { WITH_TOTAL } else { WITHOUT_TOTAL };
         bar.set_style(ProgressStyle::with_template(template).unwrap_or_else(|_| ProgressStyle::default_bar()));
-        let shows = stderr().is_terminal().then(|| show_later(bar.clone()));
+        let shows = if stderr().is_terminal() { show_later(bar.clone()) } else { None };
         Progress { bar, shows }
     }
 
-    /// Writes a line to standard error, above the bar where it shows.
-    pub fn say(&self, line: &str) {
-        self.bar.suspend(|| eprintln!("{line}"));
+    /// Tells something on standard error, above the bar where it shows.
+    pub fn say(&self, what: &str) {
+        self.bar.suspend(|| say(Status::Well, what));
     }
 
     /// The bar itself, for what writes beside it.
@@ -51,15 +53,16 @@ impl Progress {
 }
 
 /// Shows the bar after a second, if the run has not ended by then.
-fn show_later(bar: ProgressBar) -> (Sender<()>, JoinHandle<()>) {
+fn show_later(bar: ProgressBar) -> Option<(Sender<()>, JoinHandle<()>)> {
     let (ended, end) = channel();
-    let thread = std::thread::spawn(move || {
+    let show = move || {
         if end.recv_timeout(BEFORE_IT_SHOWS) == Err(RecvTimeoutError::Timeout) {
             bar.set_draw_target(ProgressDrawTarget::stderr());
             bar.enable_steady_tick(BETWEEN_DRAWS);
         }
-    });
-    (ended, thread)
+    };
+    let thread = thread::Builder::new().spawn(show).ok()?;
+    Some((ended, thread))
 }
 
 /// The progress of one film: its bytes are done when all its steps have gone through them.
@@ -87,5 +90,17 @@ impl<'a> Meter<'a> {
 impl Drop for Meter<'_> {
     fn drop(&mut self) {
         self.progress.bar.inc(self.length.saturating_sub(self.done.get()));
+    }
+}
+
+#[cfg(test)]
+mod tests {
+    use super::{ProgressStyle, WITH_TOTAL, WITHOUT_TOTAL};
+
+    #[test]
+    fn the_bars_are_well_formed() {
+        for template in [WITH_TOTAL, WITHOUT_TOTAL] {
+            assert!(ProgressStyle::with_template(template).is_ok(), "{template}");
+        }
     }
 }

@@ -170,19 +170,18 @@ pub fn measure(container: &[u8], reading: Reading) -> FilmReply {
     extract_to(container, reading, NO_KEY, &mut [], &mut [])
 }
 
-/// Extracts to the room of two vectors, which both become as long as their streams. Where the reply refuses, as it does
-/// where one of them has too little room, both are left as they were.
+/// Extracts to the room of two vectors, which become as long as their streams. Where the reply refuses, as it does where
+/// one of them has too little room, both are empty.
 pub fn extract(container: &[u8], reading: Reading, key: Key, video: &mut Vec<u8>, audio: &mut Vec<u8>) -> FilmReply {
-    let kept = [video.len(), audio.len()];
     video.clear();
     audio.clear();
     let reply = extract_to(container, reading, key, video.spare_capacity_mut(), audio.spare_capacity_mut());
-    let lengths = if reply.number == 0 { [reply.video_size, reply.audio_size] } else { kept };
-    // SAFETY: an accepted film has written as many bytes to each as its size says, and they fit the room. A refusal
-    // writes nothing, so the bytes that were there are there still.
-    unsafe {
-        video.set_len(lengths[0]);
-        audio.set_len(lengths[1]);
+    if reply.number == 0 {
+        // SAFETY: an accepted film has written as many bytes to each as its size says, and they fit the room.
+        unsafe {
+            video.set_len(reply.video_size);
+            audio.set_len(reply.audio_size);
+        }
     }
     reply
 }

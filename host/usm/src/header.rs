@@ -65,3 +65,28 @@ fn blocks(film: &[u8]) -> Vec<usize> {
 fn letters(film: &[u8], place: usize) -> [u8; 4] {
     film.get(place..).and_then(|rest| rest.first_chunk()).copied().unwrap_or_default()
 }
+
+#[cfg(test)]
+mod tests {
+    use films::{Film, Header};
+
+    use super::{blocks, header_of};
+    use crate::{Reading, sizes};
+
+    /// The header by itself is a film: without it an outline would cost an extraction.
+    #[test]
+    fn a_header_by_itself_is_a_film() {
+        let with_metadata = Film::new(&Header { name: Some(b"x"), video_codec: None, audio: Some(Some(2)) }).bytes;
+        // Without the metadata of audio: the seventh block and the last are left out.
+        let starts = blocks(&with_metadata);
+        let part = |from: usize, to: usize| &with_metadata[starts[from]..starts[to]];
+        let without = [part(0, 6), part(7, 8)].concat();
+        for (mut film, count) in [(films::f(), 5), (without, 7), (with_metadata, 9)] {
+            assert_eq!(blocks(&film).len(), count);
+            film.extend(&films::f()[320..384]);
+            let [video, _] = sizes(&film, Reading::default()).unwrap();
+            assert!(video >= 32, "a film with chunks");
+            assert_eq!(sizes(header_of(&film), Reading::default()), Ok([0, 0]));
+        }
+    }
+}

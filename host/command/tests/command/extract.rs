@@ -97,11 +97,12 @@ fn a_second_file_that_fails_undoes_the_first() {
 #[test]
 fn two_films_with_one_name() {
     let folder = Folder::new();
-    folder.write("a.usm", &named(b"lark", b"first", b"one"));
+    let first = b"first".repeat(800_000);
+    folder.write("a.usm", &named(b"lark", &first, b"one"));
     folder.write("b.usm", &named(b"x/lark.usm", b"second", b"two"));
     let run = folder.usm(&["extract", "a.usm", "b.usm", "--quiet"]);
     run.expect(2, "", "usm: b.usm: ./lark.m2v: the file is there already; --force replaces it\n");
-    assert_eq!((folder.read("lark.m2v"), folder.read("lark.hca")), (b"first".to_vec(), b"one".to_vec()));
+    assert_eq!((folder.read("lark.m2v"), folder.read("lark.hca")), (first.clone(), b"one".to_vec()));
     for words in
         [&["extract", "a.usm", "b.usm", "--quiet", "--force"][..], &["extract", "-j", "--force", "--quiet", "."]]
     {
@@ -109,7 +110,7 @@ fn two_films_with_one_name() {
         let film = if words.contains(&".") { "./b.usm" } else { "b.usm" };
         let other = if words.contains(&".") { "./a.usm" } else { "a.usm" };
         run.expect(2, "", &format!("usm: {film}: ./lark.m2v: this run wrote it for {other}\n"));
-        assert_eq!((folder.read("lark.m2v"), folder.read("lark.hca")), (b"first".to_vec(), b"one".to_vec()));
+        assert_eq!((folder.read("lark.m2v"), folder.read("lark.hca")), (first.clone(), b"one".to_vec()));
     }
     assert_eq!(folder.names(), ["a.usm", "b.usm", "lark.hca", "lark.m2v"]);
 }
@@ -209,8 +210,10 @@ fn a_full_disk_leaves_nothing() {
 #[test]
 fn many_at_once_as_one_after_the_other() {
     let folder = Folder::new();
+    // A large one before each small one, so that whoever has the small one is done first.
     for number in 0..40_u8 {
-        let film = named(format!("name{number}").as_bytes(), &vec![number; usize::from(number) * 5000], &[number; 7]);
+        let length = if number % 2 == 0 { 3_000_000 } else { 10 };
+        let film = named(format!("name{number}").as_bytes(), &vec![number; length], &[number; 7]);
         folder.write(&format!("{number:02}.usm"), &film[..film.len() - usize::from(number % 5 == 4) * 20]);
     }
     let one = folder.usm(&["extract", ".", "-o", "out"]);
@@ -223,4 +226,17 @@ fn many_at_once_as_one_after_the_other() {
     let many = folder.usm(&["extract", "-j", ".", "-o", "out"]);
     assert_eq!(many, one);
     assert_eq!(files(&folder), one_by_one);
+}
+
+#[test]
+fn a_film_of_the_run_is_not_replaced() {
+    let folder = Folder::new();
+    let film = named(b"lark", b"video", b"audio");
+    folder.write("lark.m2v", &film);
+    folder.write("other.usm", &named(b"lark", b"", b""));
+    let run = folder.usm(&["extract", "--force", "lark.m2v", "other.usm"]);
+    let why = "./lark.m2v: it is a film of this run";
+    run.expect(2, "", &format!("usm: lark.m2v: {why}\nusm: other.usm: {why}\n"));
+    assert_eq!(folder.read("lark.m2v"), film);
+    assert_eq!(folder.names(), ["lark.m2v", "other.usm"]);
 }

@@ -77,8 +77,8 @@ fn on_a_terminal(pause: u64, redirect: &str) -> String {
 fn progress_shows_on_a_terminal_from_one_second_on() {
     let shown = on_a_terminal(2200, "");
     assert!(shown.contains(" 512.00 KiB, ") && shown.contains("/s, 1s"), "{shown:?}");
-    let at_once = on_a_terminal(0, "");
-    assert!(!at_once.contains("/s"), "{at_once:?}");
+    let before = on_a_terminal(400, "");
+    assert!(!before.contains("/s"), "{before:?}");
     let elsewhere = on_a_terminal(2200, "2>/dev/null");
     assert!(!elsewhere.contains("/s"), "{elsewhere:?}");
 }
@@ -106,4 +106,14 @@ fn the_same_with_many_at_once() {
 fn an_extraction_of_many_under_a_key_is_quiet() {
     let folder = Folder::with_films();
     folder.usm(&["extract", "-j", "-q", "-k", KEY, "song.usm", "f.usm"]).expect(0, "", "");
+}
+
+#[test]
+fn errors_that_nobody_can_read_change_nothing() {
+    let folder = Folder::with_films();
+    assert_eq!(folder.shell("$USM info cut.usm f.usm 2> /dev/full").status, 1);
+    assert_eq!(folder.shell("$USM info none.usm 2> /dev/full").status, 2);
+    assert_eq!(folder.shell("$USM keys x y 2> /dev/full").status, 2);
+    assert_eq!(folder.shell("$USM nothing 2> /dev/full").status, 2);
+    assert_eq!(folder.shell("$USM keys 99 99 2> /dev/full").status, 0);
 }
