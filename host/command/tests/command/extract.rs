@@ -176,19 +176,31 @@ fn from_standard_input_to_this_folder() {
     assert_eq!(folder.read("lark.m2v"), example("song.video"));
 }
 
-/// A file system of 64 KiB, or nothing where this can't be mounted.
-fn small_disk(folder: &Folder) -> bool {
-    fs::create_dir(folder.path("disk")).unwrap();
-    is_root() && folder.shell("mount -t tmpfs -o size=64k tmpfs disk").status == 0
+/// A file system of 64 KiB in the folder `disk`, until it is dropped.
+struct SmallDisk<'a>(&'a Folder);
+
+impl SmallDisk<'_> {
+    /// Nothing where it can't be mounted.
+    fn new(folder: &Folder) -> Option<SmallDisk<'_>> {
+        fs::create_dir(folder.path("disk")).unwrap();
+        let is_mounted = is_root() && folder.shell("mount -t tmpfs -o size=64k tmpfs disk").status == 0;
+        is_mounted.then_some(SmallDisk(folder))
+    }
+}
+
+impl Drop for SmallDisk<'_> {
+    fn drop(&mut self) {
+        self.0.shell("umount disk");
+    }
 }
 
 #[test]
 fn a_full_disk_leaves_nothing() {
     let folder = Folder::new();
-    if !small_disk(&folder) {
+    let Some(_disk) = SmallDisk::new(&folder) else {
         eprintln!("SKIPPED: a full disk needs root and mount");
         return;
-    }
+    };
     // The video fits, the audio does not; then neither does.
     for (video, audio) in [(20_000, 60_000), (100_000, 10)] {
         folder.write("film.usm", &named(b"film", &vec![1; video], &vec![2; audio]));
@@ -204,7 +216,6 @@ fn a_full_disk_leaves_nothing() {
     assert_eq!(folder.usm(&["extract", "film.usm", "-o", "disk", "--force"]).status, 2);
     assert_eq!((folder.read("disk/film.m2v"), folder.read("disk/film.hca")), (vec![1; 20_000], vec![2; 20_000]));
     assert_eq!(names(&folder.path("disk")), ["film.hca", "film.m2v"]);
-    assert_eq!(folder.shell("umount disk").status, 0);
 }
 
 #[test]
