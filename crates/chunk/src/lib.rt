@@ -181,10 +181,10 @@ pub fn chunk_at(container: &[u8], place: usize, reading: Applied) -> ChunkStep
     ensures { λ r. ⌜ r ≡ chunkAt (now (container .entry)) reading place ⌝ }
 {
     let left = word::left_from(container, place);
-    if left < signature::LETTERS {
-        return ChunkStep::Over;
-    }
     if left < OPENING {
+        if left < signature::LETTERS {
+            return ChunkStep::Over;
+        }
         return refused(Cause::RanOut, place);
     }
     opened_at(container, place, reading, opening_at(container, place))

@@ -4,7 +4,6 @@ use mathlib.Core.Path.{sym, _∙_}
 use Prim.Native.Nat.{_-_, _≤_}
 use native.Mathlib.Omega.{arith}
 use lib.ListN.{length}
-use Rattle.chunk.proofs.FoundLaws.{found}
 use Rattle.walk.proofs.WalkLaws.{falls}
 use Rattle.walk.proofs.LoopLaws.{loop-starts}
 use Rattle.walk.proofs.SumLaws.{sums, Counting, sums-over, sums-found, found-fits, sums-refused}
@@ -63,9 +62,7 @@ add-audio c =
     omega (arith, found-fits _ _ _ _ _ (step .before .loop .inv .0) _ (sym (step .chunk-at .ensures) ∙ known .chunk .given .1))
 
 touched-requires : tie.Need-touched-requires Inv-loop μ-loop
-touched-requires c κs =
-    let known = c .before .before .before in
-    omega (arith, found _ _ _ _ (sym (known .before .before .chunk-at .ensures) ∙ known .chunk .given .1) .past)
+touched-requires c κs = search needs
 
 add-bits : tie.Need-add-bits Inv-loop μ-loop
 add-bits c =
