@@ -1,8 +1,8 @@
--- Rules R: the number of each cause, and what is "also returned". 18 is request 5's.
+-- Rules R: the number of each cause, and what is "also returned". 15, 16 and 23 are request 1's, 18 is request 5's.
 use Prim.Native.Nat.{ℕ}
 use Rattle.refusal.specs.declared.Beside.{Beside}
 use Rattle.refusal.specs.declared.Cause.{Cause}
-use Rattle.refusal.specs.declared.Cause.the-variants.{RanOut, NoFilm, NoTable, NoVideo, NoAudio, NoHeaderEnd, NoMetadataEnd, UnknownType, TooSmall, TooMany, TooLong, ShortOutput, ShortList, Oversized, UnknownStorage}
+use Rattle.refusal.specs.declared.Cause.the-variants.{RanOut, NoFilm, NoTable, NoVideo, NoAudio, NoHeaderEnd, NoMetadataEnd, UnknownType, TooSmall, TooMany, TooLong, ShortOutput, ShortList, Oversized, MarkedPayload, ShortRoom, UnknownStorage, CodecAlone}
 
 abbrev pub numberOf : Cause → ℕ
 numberOf RanOut = 1
@@ -19,11 +19,14 @@ numberOf TooLong = 11
 numberOf (ShortOutput video audio) = 12
 numberOf (ShortList count) = 13
 numberOf Oversized = 14
+numberOf MarkedPayload = 15
+numberOf (ShortRoom size) = 16
 numberOf UnknownStorage = 18
+numberOf CodecAlone = 23
 
--- "Also returned": "the type, 7, 9 or 12 to 15" beside 8, "both sizes needed" beside 12, "chunk count" beside 13. Nothing beside the others
+-- "Also returned": "the type, 7, 9 or 12 to 15" beside 8, "both sizes needed" beside 12, "chunk count" beside 13, the size needed beside 16. Nothing beside the others
 abbrev pub nothingBeside : Beside
-nothingBeside = record { «video_size» = 0; «audio_size» = 0; count = 0; «unknown_type» = 0 }
+nothingBeside = record { «video_size» = 0; «audio_size» = 0; count = 0; «unknown_type» = 0; size = 0 }
 
 abbrev pub besideOf : Cause → Beside
 besideOf RanOut = nothingBeside
@@ -33,11 +36,14 @@ besideOf NoVideo = nothingBeside
 besideOf NoAudio = nothingBeside
 besideOf NoHeaderEnd = nothingBeside
 besideOf NoMetadataEnd = nothingBeside
-besideOf (UnknownType kind) = record { «video_size» = 0; «audio_size» = 0; count = 0; «unknown_type» = kind }
+besideOf (UnknownType kind) = record { «video_size» = 0; «audio_size» = 0; count = 0; «unknown_type» = kind; size = 0 }
 besideOf TooSmall = nothingBeside
 besideOf TooMany = nothingBeside
 besideOf TooLong = nothingBeside
-besideOf (ShortOutput video audio) = record { «video_size» = video; «audio_size» = audio; count = 0; «unknown_type» = 0 }
-besideOf (ShortList count) = record { «video_size» = 0; «audio_size» = 0; count = count; «unknown_type» = 0 }
+besideOf (ShortOutput video audio) = record { «video_size» = video; «audio_size» = audio; count = 0; «unknown_type» = 0; size = 0 }
+besideOf (ShortList count) = record { «video_size» = 0; «audio_size» = 0; count = count; «unknown_type» = 0; size = 0 }
 besideOf Oversized = nothingBeside
+besideOf MarkedPayload = nothingBeside
+besideOf (ShortRoom size) = record { «video_size» = 0; «audio_size» = 0; count = 0; «unknown_type» = 0; size = size }
 besideOf UnknownStorage = nothingBeside
+besideOf CodecAlone = nothingBeside

@@ -1,8 +1,8 @@
-// Why a table or a container is refused, and where. Rules R.
+// Why a table or a container is refused, or a film is not written, and where. Rules R.
 ghost use mathlib.Core.Path.{_≡_};
 ghost use Rattle.refusal.specs.Numbers.{numberOf, besideOf};
 
-// Why. The cases stand in the order of their numbers, 1 to 14 and 18.
+// Why. The cases stand in the order of their numbers: 1 to 16, 18 and 23.
 pub enum Cause {
     // Bytes run out.
     RanOut,
@@ -32,8 +32,14 @@ pub enum Cause {
     ShortList(usize),
     // Both stream sizes together exceed the container's length.
     Oversized,
+    // A payload begins with the end marker.
+    MarkedPayload,
+    // The output is too short for this size.
+    ShortRoom(usize),
     // A column whose values stand nowhere that is known.
     UnknownStorage,
+    // An audio codec is given, and no audio.
+    CodecAlone,
 }
 
 // Why, and where.
@@ -61,16 +67,21 @@ pub fn number_of(cause: Cause) -> u8
         Cause::ShortOutput { video: _, audio: _ } => 12,
         Cause::ShortList(_) => 13,
         Cause::Oversized => 14,
+        Cause::MarkedPayload => 15,
+        Cause::ShortRoom(_) => 16,
         Cause::UnknownStorage => 18,
+        Cause::CodecAlone => 23,
     }
 }
 
-// What is returned beside a number: the type beside 8, both sizes needed beside 12, the chunk count beside 13. All else is 0.
+// What is returned beside a number: the type beside 8, both sizes needed beside 12, the chunk count beside 13, the size
+// needed beside 16. All else is 0.
 pub struct Beside {
     pub video_size: usize,
     pub audio_size: usize,
     pub count: usize,
     pub unknown_type: u8,
+    pub size: usize,
 }
 
 // What is returned beside a cause's number.
@@ -82,6 +93,7 @@ pub fn beside_of(cause: Cause) -> Beside
         audio_size: 0,
         count: 0,
         unknown_type: 0,
+        size: 0,
     };
     match cause {
         Cause::RanOut => nothing,
@@ -96,6 +108,7 @@ pub fn beside_of(cause: Cause) -> Beside
             audio_size: 0,
             count: 0,
             unknown_type: kind,
+            size: 0,
         },
         Cause::TooSmall => nothing,
         Cause::TooMany => nothing,
@@ -105,14 +118,25 @@ pub fn beside_of(cause: Cause) -> Beside
             audio_size: audio,
             count: 0,
             unknown_type: 0,
+            size: 0,
         },
         Cause::ShortList(count) => Beside {
             video_size: 0,
             audio_size: 0,
             count,
             unknown_type: 0,
+            size: 0,
         },
         Cause::Oversized => nothing,
+        Cause::MarkedPayload => nothing,
+        Cause::ShortRoom(size) => Beside {
+            video_size: 0,
+            audio_size: 0,
+            count: 0,
+            unknown_type: 0,
+            size,
+        },
         Cause::UnknownStorage => nothing,
+        Cause::CodecAlone => nothing,
     }
 }

@@ -50,6 +50,15 @@ enum-told-11 c = search needs
 enum-told-12 : tie.Need-enum-told-12
 enum-told-12 c = search needs
 
+enum-known-cause-4 : tie.Need-enum-known-cause-4
+enum-known-cause-4 c = search needs
+
+enum-told-13 : tie.Need-enum-told-13
+enum-told-13 c = search needs
+
+enum-told-14 : tie.Need-enum-told-14
+enum-told-14 c = search needs
+
 returns : tie.Need-returns
 returns c = sym (ap besideOf (c .enum-told .given .1))
 
@@ -95,6 +104,15 @@ returns-14 c = sym (ap besideOf (c .enum-told11 .given .1))
 returns-15 : tie.Need-returns-15
 returns-15 c = sym (ap besideOf (c .enum-told12 .given .1))
 
+returns-16 : tie.Need-returns-16
+returns-16 c = sym (ap besideOf (c .before .cause4 .given .1))
+
+returns-17 : tie.Need-returns-17
+returns-17 c = sym (ap besideOf (c .enum-told13 .given .1))
+
+returns-18 : tie.Need-returns-18
+returns-18 c = sym (ap besideOf (c .enum-told14 .given .1))
+
 pub beside-of-spec : {M : Type 1} → statement M
 beside-of-spec =
     tie.close
@@ -114,6 +132,9 @@ beside-of-spec =
     enum-known-cause-3
     enum-told-11
     enum-told-12
+    enum-known-cause-4
+    enum-told-13
+    enum-told-14
     returns
     returns-2
     returns-3
@@ -128,4 +149,7 @@ beside-of-spec =
     returns-12
     returns-13
     returns-14
-    returns-15)
+    returns-15
+    returns-16
+    returns-17
+    returns-18)
