@@ -1,4 +1,3 @@
-pub mod PutLaws
 pub mod StreamLaws
 pub mod WrittenLaws
 pub mod AnswerLaws

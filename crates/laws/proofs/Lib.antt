@@ -3,5 +3,7 @@ pub mod Side
 pub mod TabLaws
 pub mod SpliceLaws
 pub mod SetsLaws
+pub mod LentLaws
+pub mod PutLaws
 pub mod UptoLaws
 pub mod XorLaws

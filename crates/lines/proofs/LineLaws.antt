@@ -20,7 +20,7 @@ use Rattle.walk.specs.Walks.{walkFrom, joined}
 use Rattle.walk.proofs.WalkLaws.{every-walk}
 use Rattle.walk.proofs.PutLaws.{Output, output}
 use Rattle.text.specs.Numbers.{decimal}
-use Rattle.text.specs.Outputs.{Put}
+use Rattle.laws.specs.Outputs.{Put}
 use Rattle.text.proofs.NumberLaws.{decimal-short, decimal-fits}
 use Rattle.lines.specs.Lines.{space, newline, numberThen, kindWord, lineOf, linesOf, refusalLine}
 

@@ -4,7 +4,7 @@ ghost use mathlib.Core.Path.{_≡_};
 ghost use Prim.Native.Nat.{_+_, _≤_, _<_, _^_};
 ghost use lib.ListN.{length};
 ghost use lib.Seq.{sets};
-ghost use Rattle.text.specs.Outputs.{Put};
+ghost use Rattle.laws.specs.Outputs.{Put};
 ghost use Rattle.walk.specs.Walks.{walkFrom};
 ghost use Rattle.lines.specs.Lines.{numberThen, kindWord, lineOf, linesOf, refusalLine, textOf};
 use chunk::Chunk;

@@ -6,7 +6,7 @@ use native.Mathlib.Omega.{arith}
 use lib.ListN.{length}
 use borrow.Author.Tests.{lt-ltb, le-ltb}
 use Rattle.text.specs.Numbers.{hexBytes}
-use Rattle.text.specs.Outputs.{Put}
+use Rattle.laws.specs.Outputs.{Put}
 use Rattle.replay_line.specs.declared.Line.{Line}
 use Rattle.replay_line.specs.Lines.{withPiece}
 

@@ -4,7 +4,7 @@ use mathlib.Core.Path.{_≡_, sym, _∙_}
 use mathlib.Core.List.{List}
 use native.Mathlib.Omega.{arith}
 use Rattle.laws.proofs.OneAnswer.{no-second-answer}
-use Rattle.text.specs.Outputs.{Put}
+use Rattle.laws.specs.Outputs.{Put}
 use Rattle.text.proofs.put_bytes.Reads as put-bytes
 use Rattle.text.proofs.put_hex_bytes.Reads as put-hex-bytes
 use Rattle.text.proofs.put_decimal.Reads as put-decimal

@@ -1,55 +1,24 @@
--- Bytes that are put into an output piece by piece are put whole: each piece begins where the one before ends. Assumes nothing.
-use mathlib.Core.Path.{_≡_, refl, sym, ap, ap₂, _∙_}
+-- A loop that puts the bytes of a text: with what is left put after it, what stands there is the whole. Assumes nothing.
+use mathlib.Core.Path.{_≡_, refl}
 use mathlib.Core.List.{List, [], _∷_, _++_}
 use Prim.Native.Nat.{ℕ, _+_, _*_, _/_, _%_, _≤_, _<_}
 use native.Mathlib.Nat.{add-zero}
 use native.Mathlib.Numerals.{add-one}
 use native.Mathlib.Omega.{arith}
-use lib.ListN.{length, drop, set, length-append, drop-of-length-le}
-use lib.Seq.{sets, length-sets, drop-cons}
+use lib.ListN.{length, drop, set, drop-of-length-le}
+use lib.Seq.{drop-cons}
 use Rattle.laws.specs.Lists.{at}
-use Rattle.laws.proofs.SetsLaws.{sets-append}
+use Rattle.laws.proofs.PutLaws.{Left, all-left, less-left, none-left, put-then}
 use Rattle.io.specs.Digits.{glyph}
 use Rattle.text.specs.Numbers.{hexBytes}
-use Rattle.text.specs.Outputs.{Put}
+use Rattle.laws.specs.Outputs.{Put}
 
 put-one : (out : List ℕ) (place byte : ℕ) → Put (byte ∷ []) out place (set out place byte) (place + 1)
 put-one out place byte = record { ends = refl; holds = refl }
 
-pub put-then : {p q out next after : List ℕ} {place middle end : ℕ} → Put p out place next middle → Put q next middle after end → Put (p ++ q) out place after end
-put-then {p} {q} {out} {next} {after} {place} {middle} {end} h k =
-    record {
-      ends = omega (arith, length-append p q);
-      holds = k .holds ∙ ap₂ (λ (l : List ℕ) (n : ℕ). sets l n q) (h .holds) (h .ends) ∙ sym (sets-append out p q place);
-    }
-
--- what is put at the start of an output
-pub put-first : {bytes other out after : List ℕ} {end : ℕ} → Put bytes out 0 after end → bytes ≡ other → (end ≡ length other) × (after ≡ sets out 0 other)
-put-first {bytes} {other} {out} {after} {end} h e =
-    let l : end ≡ length bytes = omega (arith, h .ends) in
-    (l ∙ ap length e, h .holds ∙ ap (sets out 0) e)
-
--- ---- a loop that puts the bytes of a text: with what is left put after it, what stands there is the whole
-
-pub record Left (rest out : List ℕ) (end : ℕ) (whole start : List ℕ) (place : ℕ) : Type 0 where
-  pub ends : end + length rest ≡ place + length whole
-  pub holds : sets out end rest ≡ sets start place whole
-
-less-left : {p rest out next whole start : List ℕ} {end after place : ℕ} → Left (p ++ rest) out end whole start place → Put p out end next after → Left rest next after whole start place
-less-left {p} {rest} {out} {next} {whole} {start} {end} {after} {place} l h =
-    record {
-      ends = omega (arith, l .ends, h .ends, length-append p rest);
-      holds = ap₂ (λ (l : List ℕ) (n : ℕ). sets l n rest) (h .holds) (h .ends) ∙ sym (sets-append out p rest end) ∙ l .holds;
-    }
-
-none-left : {out whole start : List ℕ} {end place : ℕ} → Left [] out end whole start place → Put whole start place out end
-none-left l = record { ends = omega (arith, l .ends); holds = l .holds }
-
-pub left-length : {rest out whole start : List ℕ} {end place : ℕ} → Left rest out end whole start place → length out ≡ length start
-left-length {rest} {out} {whole} {start} {end} {place} l = sym (length-sets out end rest) ∙ ap length (l .holds) ∙ length-sets start place whole
-
-pub all-left : (whole start : List ℕ) (place : ℕ) → Left whole start (place + 0) whole start place
-all-left whole start place = rw (add-zero place) (record { ends = refl; holds = refl })
+-- where the loop begins, all is left
+pub left-at-start : (whole start : List ℕ) (place : ℕ) → Left whole start (place + 0) whole start place
+left-at-start whole start place = rw (add-zero place) (all-left whole start place)
 
 -- a byte a turn
 module _ (bytes out start : List ℕ) (place i : ℕ) (left : Left (drop i bytes) out (place + i) bytes start place) where

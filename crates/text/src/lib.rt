@@ -7,7 +7,7 @@ ghost use Prim.Native.Nat.{_+_, _<_};
 ghost use lib.ListN.{set};
 ghost use Rattle.io.specs.Digits.{glyph};
 ghost use Rattle.text.specs.Numbers.{decimal, hex, hexBytes};
-ghost use Rattle.text.specs.Outputs.{Put};
+ghost use Rattle.laws.specs.Outputs.{Put};
 
 // Puts the byte that is `i` bytes after a place, if the output has that.
 fn put_byte(out: &mut [u8], place: usize, i: usize, byte: u8)

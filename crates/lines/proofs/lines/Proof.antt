@@ -1,6 +1,6 @@
 -- `lines::lines` meets its contract: a survey that accepts is of the film whose chunks are printed, and one that refuses has the refusal. Assumes nothing.
 use mathlib.Core.Path.{sym, _∙_}
-use Rattle.text.proofs.PutLaws.{put-first}
+use Rattle.laws.proofs.PutLaws.{put-first}
 use Rattle.lines.proofs.TextLaws.{too-long, accepted, not-accepted}
 use borrow.Author.Needs.{needs}
 use Rattle.lines.proofs.lines.Statement.{statement}

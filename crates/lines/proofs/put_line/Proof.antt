@@ -1,7 +1,7 @@
 -- `lines::put_line` meets its contract: its four words are put one after the other, and each fits where the line does. Assumes nothing.
 use native.Mathlib.Omega.{arith}
 use Rattle.lines.specs.Lines.{lineOf}
-use Rattle.text.proofs.PutLaws.{put-then}
+use Rattle.laws.proofs.PutLaws.{put-then}
 use Rattle.lines.proofs.LineLaws.{line-length}
 use borrow.Author.Needs.{needs}
 use Rattle.lines.proofs.put_line.Statement.{statement}

@@ -1,7 +1,7 @@
 -- `lines::put_number` meets its contract: what stands after the number is put where its digits end. Assumes nothing.
 use native.Mathlib.Omega.{arith}
 use Rattle.lines.specs.Lines.{numberThen}
-use Rattle.text.proofs.PutLaws.{put-then}
+use Rattle.laws.proofs.PutLaws.{put-then}
 use Rattle.lines.proofs.LineLaws.{number-length}
 use borrow.Author.Needs.{needs}
 use Rattle.lines.proofs.put_number.Statement.{statement}

@@ -1,7 +1,7 @@
 -- `lines::put_refusal` meets its contract: its four words are put one after the other, and a number has at most 20 digits. Assumes nothing.
 use native.Mathlib.Omega.{arith}
 use Rattle.lines.specs.Lines.{space, newline, refusalLine}
-use Rattle.text.proofs.PutLaws.{put-then}
+use Rattle.laws.proofs.PutLaws.{put-then}
 use Rattle.lines.proofs.LineLaws.{number-fits}
 use borrow.Author.Needs.{needs}
 use Rattle.lines.proofs.put_refusal.Statement.{statement}

@@ -4,7 +4,8 @@ use Prim.Native.Nat.{_+_, _-_, _*_, _≤_}
 use native.Mathlib.Omega.{arith}
 use lib.ListN.{length, drop}
 use Rattle.text.specs.Numbers.{hexBytes}
-use Rattle.text.proofs.PutLaws.{Left, all-left, hex-put, hex-bytes-put, left-length}
+use Rattle.laws.proofs.PutLaws.{Left, left-length}
+use Rattle.text.proofs.PutLaws.{left-at-start, hex-put, hex-bytes-put}
 use borrow.Author.Needs.{needs}
 use Rattle.text.proofs.put_hex_bytes.Statement.{statement}
 use Rattle.text.proofs.put_hex_bytes.Tie as tie
@@ -16,7 +17,7 @@ abbrev μ-loop : tie.MeasureT-loop
 μ-loop out₀ place bytes i₀ out i = length bytes - i
 
 loop-holds : tie.Need-loop-holds Inv-loop μ-loop
-loop-holds c = (omega arith, all-left _ _ _)
+loop-holds c = (omega arith, left-at-start _ _ _)
 
 shared-slice-read-byte : tie.Need-shared-slice-read-byte Inv-loop μ-loop
 shared-slice-read-byte c = search needs

@@ -1,4 +1,4 @@
--- Bytes that are put into a lent output, as far as it goes.
+-- Bytes that are put into a lent output, for the contracts of functions that put one thing after the other.
 use mathlib.Core.Path.{_≡_}
 use mathlib.Core.List.{List}
 use Prim.Native.Nat.{ℕ, _+_}

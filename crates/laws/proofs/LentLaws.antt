@@ -1,4 +1,4 @@
--- A part of an output that is lent to a call comes back with what the call left there: a payload that is copied in and made clear is stored clear.
+-- A part of an output that is lent to a call comes back with what the call left there: what is copied in and changed there is stored changed.
 -- Assumes nothing.
 use Prim.Native.Nat.{ℕ, _+_, _-_, _≤_}
 use mathlib.Core.Path.{_≡_, ap, ap₂, _∙_}
@@ -43,19 +43,26 @@ module _ (out ys : List ℕ) (at k : ℕ) (e : length ys ≡ k) (h : at + k ≤ 
 whole-copy : (p r ys : List ℕ) → length r ≤ length p → ys ≡ take (length p) p ++ drop (length p) r → ys ≡ p
 whole-copy p r ys g f = f ∙ rw (take-length p, drop-of-length-le r g, append-nil p)
 
-module _ (clear : List ℕ → List ℕ) (keeps : (p : List ℕ) → length (clear p) ≡ length p) (payload out ys : List ℕ) (at : ℕ) (fits : at + length payload ≤ length out) where
+-- bytes that are copied into the part, and changed there
+module _ (bytes out ys : List ℕ) (at : ℕ) (fits : at + length bytes ≤ length out) where
   abbrev k : ℕ
-  k = at + length payload - at
+  k = at + length bytes - at
 
-  -- the payload is copied to its place, and made clear there
-  pub put-clear : ys ≡ take (length payload) payload ++ drop (length payload) (midOf at k out) → (zs : List ℕ) → zs ≡ clear (midOf at k (putMid at k out ys))
-      → putMid at k (putMid at k out ys) zs ≡ sets out at (clear payload)
-  put-clear copied zs cleared =
-      let n : length payload ≡ k = omega arith in
-      let h : at + k ≤ length out = omega arith in
-      let y : ys ≡ payload = whole-copy payload (midOf at k out) ys (simp (length-take, length-drop) (omega arith)) copied in
-      let p : putMid at k out ys ≡ sets out at payload = ap (putMid at k out) y ∙ put-mid out payload at k n h in
-      let z : zs ≡ clear payload = cleared ∙ ap clear (ap (midOf at k) p ∙ mid-sets out payload at k n h) in
-      let l : length (clear payload) ≡ k = keeps payload ∙ n in
-      let i : at + k ≤ length (sets out at payload) = omega (arith, length-sets out at payload) in
-      ap₂ (putMid at k) p z ∙ put-mid (sets out at payload) (clear payload) at k l i ∙ sets-sets out payload at k n h (clear payload) (keeps payload)
+  module _ (copied : ys ≡ take (length bytes) bytes ++ drop (length bytes) (midOf at k out)) where
+    n : length bytes ≡ k
+    n = omega arith
+
+    h : at + k ≤ length out
+    h = omega arith
+
+    pub put-copied : putMid at k out ys ≡ sets out at bytes
+    put-copied =
+        ap (putMid at k out) (whole-copy bytes (midOf at k out) ys (simp (length-take, length-drop) (omega arith)) copied) ∙ put-mid out bytes at k n h
+
+    pub put-changed : (change : List ℕ → List ℕ) (keeps : (p : List ℕ) → length (change p) ≡ length p) (zs : List ℕ) → zs ≡ change (midOf at k (putMid at k out ys))
+        → putMid at k (putMid at k out ys) zs ≡ sets out at (change bytes)
+    put-changed change keeps zs changed =
+        let z : zs ≡ change bytes = changed ∙ ap change (ap (midOf at k) put-copied ∙ mid-sets out bytes at k n h) in
+        let l : length (change bytes) ≡ k = keeps bytes ∙ n in
+        let i : at + k ≤ length (sets out at bytes) = omega (arith, length-sets out at bytes) in
+        ap₂ (putMid at k) put-copied z ∙ put-mid (sets out at bytes) (change bytes) at k l i ∙ sets-sets out bytes at k n h (change bytes) (keeps bytes)
