@@ -1,0 +1,4 @@
+pub mod Payloads
+pub mod Films
+pub mod Sizes
+pub mod Planning
