@@ -1,0 +1,6 @@
+pub mod BlockPutLaws
+pub mod TablePutLaws
+pub mod EachPutLaws
+pub mod ChunkPutLaws
+pub mod FilmPutLaws
+pub mod OneAnswer
