@@ -1,0 +1,10 @@
+pub mod FromLaws
+pub mod BlockReadLaws
+pub mod TableReadLaws
+pub mod MaskLaws
+pub mod ChunkReadLaws
+pub mod WalkBackLaws
+pub mod StreamBackLaws
+pub mod HeaderBackLaws
+pub mod FilmBackLaws
+pub mod Promises
