@@ -2,7 +2,7 @@
 ghost use mathlib.Core.Path.{_≡_};
 ghost use Rattle.refusal.specs.Numbers.{numberOf, besideOf};
 
-// Why. The cases stand in the order of their numbers: 1 to 16, 18 and 23.
+// Why. The cases stand in the order of their numbers, 1 to 23.
 pub enum Cause {
     // Bytes run out.
     RanOut,
@@ -36,8 +36,18 @@ pub enum Cause {
     MarkedPayload,
     // The output is too short for this size.
     ShortRoom(usize),
+    // A header size below 0x18, where payloads begin behind the header.
+    ShortHeader,
     // A column whose values stand nowhere that is known.
     UnknownStorage,
+    // A film that the old builder, or the move from it, does not write.
+    Foreign,
+    // A film of the old builder with more than one audio.
+    ManyAudios,
+    // No beginning of the container is accepted.
+    NoBeginning,
+    // No tenant, over 16 of them, or a number twice.
+    BadTenants,
     // An audio codec is given, and no audio.
     CodecAlone,
 }
@@ -69,7 +79,12 @@ pub fn number_of(cause: Cause) -> u8
         Cause::Oversized => 14,
         Cause::MarkedPayload => 15,
         Cause::ShortRoom(_) => 16,
+        Cause::ShortHeader => 17,
         Cause::UnknownStorage => 18,
+        Cause::Foreign => 19,
+        Cause::ManyAudios => 20,
+        Cause::NoBeginning => 21,
+        Cause::BadTenants => 22,
         Cause::CodecAlone => 23,
     }
 }
@@ -136,7 +151,12 @@ pub fn beside_of(cause: Cause) -> Beside
             unknown_type: 0,
             size,
         },
+        Cause::ShortHeader => nothing,
         Cause::UnknownStorage => nothing,
+        Cause::Foreign => nothing,
+        Cause::ManyAudios => nothing,
+        Cause::NoBeginning => nothing,
+        Cause::BadTenants => nothing,
         Cause::CodecAlone => nothing,
     }
 }

@@ -59,6 +59,21 @@ enum-told-13 c = search needs
 enum-told-14 : tie.Need-enum-told-14
 enum-told-14 c = search needs
 
+enum-told-15 : tie.Need-enum-told-15
+enum-told-15 c = search needs
+
+enum-told-16 : tie.Need-enum-told-16
+enum-told-16 c = search needs
+
+enum-told-17 : tie.Need-enum-told-17
+enum-told-17 c = search needs
+
+enum-told-18 : tie.Need-enum-told-18
+enum-told-18 c = search needs
+
+enum-told-19 : tie.Need-enum-told-19
+enum-told-19 c = search needs
+
 returns : tie.Need-returns
 returns c = sym (ap besideOf (c .enum-told .given .1))
 
@@ -113,6 +128,21 @@ returns-17 c = sym (ap besideOf (c .enum-told13 .given .1))
 returns-18 : tie.Need-returns-18
 returns-18 c = sym (ap besideOf (c .enum-told14 .given .1))
 
+returns-19 : tie.Need-returns-19
+returns-19 c = sym (ap besideOf (c .enum-told15 .given .1))
+
+returns-20 : tie.Need-returns-20
+returns-20 c = sym (ap besideOf (c .enum-told16 .given .1))
+
+returns-21 : tie.Need-returns-21
+returns-21 c = sym (ap besideOf (c .enum-told17 .given .1))
+
+returns-22 : tie.Need-returns-22
+returns-22 c = sym (ap besideOf (c .enum-told18 .given .1))
+
+returns-23 : tie.Need-returns-23
+returns-23 c = sym (ap besideOf (c .enum-told19 .given .1))
+
 pub beside-of-spec : {M : Type 1} → statement M
 beside-of-spec =
     tie.close
@@ -135,6 +165,11 @@ beside-of-spec =
     enum-known-cause-4
     enum-told-13
     enum-told-14
+    enum-told-15
+    enum-told-16
+    enum-told-17
+    enum-told-18
+    enum-told-19
     returns
     returns-2
     returns-3
@@ -152,4 +187,9 @@ beside-of-spec =
     returns-15
     returns-16
     returns-17
-    returns-18)
+    returns-18
+    returns-19
+    returns-20
+    returns-21
+    returns-22
+    returns-23)
