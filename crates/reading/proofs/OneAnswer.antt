@@ -2,12 +2,16 @@
 use mathlib.Core.Path.{_≡_}
 use Rattle.laws.proofs.OneAnswer.{no-second-answer}
 use Rattle.reading.proofs.is_chosen.Reads as is-chosen
+use Rattle.reading.proofs.as_original.Reads as as-original
 use Rattle.reading.proofs.mode_by.Reads as mode-by
 use Rattle.reading.proofs.reading_by.Reads as reading-by
 use Rattle.reading.proofs.applied_to.Reads as applied-to
 
 pub is-chosen-once : (κs : _) (args : _) (r r′ : _) (exit exit′ : _) → is-chosen.Learnt κs args r exit → is-chosen.Learnt κs args r′ exit′ → r ≡ r′
 is-chosen-once κs args r r′ exit exit′ = no-second-answer
+
+pub as-original-once : (κs : _) (args : _) (r r′ : _) (exit exit′ : _) → as-original.Learnt κs args r exit → as-original.Learnt κs args r′ exit′ → r ≡ r′
+as-original-once κs args r r′ exit exit′ = no-second-answer
 
 pub mode-by-once : (κs : _) (args : _) (r r′ : _) (exit exit′ : _) → mode-by.Learnt κs args r exit → mode-by.Learnt κs args r′ exit′ → r ≡ r′
 mode-by-once κs args r r′ exit exit′ = no-second-answer

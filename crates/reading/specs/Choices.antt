@@ -15,6 +15,10 @@ abbrev pub isChosen : AudioChoice → Bool
 isChosen NotChosen = false
 isChosen Chosen = true
 
+-- "Requests below read in the Rust's modes unless they say otherwise"
+abbrev pub asOriginal : AudioChoice → Reading
+asOriginal choice = record { audio = choice; tables = Original }
+
 -- what C asks for, ours: 0 chooses no audio, and 1 the mode of zero columns
 abbrev pub choiceBy : ℕ → AudioChoice
 choiceBy number = cond (eqb number 0) NotChosen Chosen

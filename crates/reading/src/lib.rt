@@ -1,7 +1,7 @@
 // How a container is read: what a caller asks for, and what of it applies to one film. Both go by value.
 // Rules C: audio is taken "if present and chosen". request 5: how a table's columns are read.
 ghost use mathlib.Core.Path.{_≡_};
-ghost use Rattle.reading.specs.Choices.{isChosen, choiceBy, modeBy, readingBy, appliedTo};
+ghost use Rattle.reading.specs.Choices.{isChosen, asOriginal, choiceBy, modeBy, readingBy, appliedTo};
 
 // Whether audio payloads are asked for.
 pub enum AudioChoice {
@@ -44,6 +44,16 @@ pub fn is_chosen(choice: AudioChoice) -> bool
     match choice {
         AudioChoice::NotChosen => false,
         AudioChoice::Chosen => true,
+    }
+}
+
+// As the Rust reads, with this audio.
+pub fn as_original(audio: AudioChoice) -> Reading
+    ensures { λ r. ⌜ r ≡ asOriginal audio ⌝ }
+{
+    Reading {
+        audio,
+        tables: TableMode::Original,
     }
 }
 
