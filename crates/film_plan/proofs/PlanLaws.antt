@@ -11,10 +11,10 @@ use borrow.Author.Tests.{lt-ltb, le-ltb, ltb-false}
 use Rattle.refusal.specs.declared.Cause.{Cause}
 use Rattle.refusal.specs.declared.Cause.the-variants.{TooLong, MarkedPayload, CodecAlone}
 use Rattle.signature.specs.Signatures.{contentsEnd, sameBytes, standsAt}
+use Rattle.written.specs.declared.Written.{Written}
+use Rattle.written.specs.declared.Written.the-variants as written
 use Rattle.film_plan.specs.declared.Packing.{Packing}
 use Rattle.film_plan.specs.declared.Measured.the-variants.{Over, Size}
-use Rattle.film_plan.specs.declared.Planned.{Planned}
-use Rattle.film_plan.specs.declared.Planned.the-variants as planned
 use Rattle.film_plan.specs.Payloads.{payloadsOf}
 use Rattle.film_plan.specs.Films.{filmBytes}
 use Rattle.film_plan.specs.Sizes.{filmSize}
@@ -114,13 +114,13 @@ module _ (name video audio : List ℕ) (packing : Packing) where
       unfolding plannedOf
       plan-audio v a = rw (e, measured .0, v, a)
 
-      pub plan-size : anyMarked (payloadsOf video) ≡ false → anyMarked (payloadsOf audio) ≡ false → planned.Size n ≡ plannedOf name video audio packing
+      pub plan-size : anyMarked (payloadsOf video) ≡ false → anyMarked (payloadsOf audio) ≡ false → written.Size n ≡ plannedOf name video audio packing
       unfolding plannedOf
-      plan-size v a = rw (e, measured .0, v, a) (ap planned.Size (sym (measured .1)))
+      plan-size v a = rw (e, measured .0, v, a) (ap written.Size (sym (measured .1)))
 
 -- ---- a film that is planned
 
-tested : (t : Bool) (cause : Cause) (p : Planned) (n : ℕ) → cond t (refusedBy cause) p ≡ planned.Size n → (t ≡ false) × (p ≡ planned.Size n)
+tested : (t : Bool) (cause : Cause) (p : Written) (n : ℕ) → cond t (refusedBy cause) p ≡ written.Size n → (t ≡ false) × (p ≡ written.Size n)
 tested true cause p n e = let z : _≡_ {A = ℕ} 0 1 = cc in absurd (omega arith)
 tested false cause p n e = (refl, e)
 
@@ -131,7 +131,7 @@ pub record Accepted (name video audio : List ℕ) (packing : Packing) (n : ℕ) 
   pub unmarked : (anyMarked (payloadsOf video) || anyMarked (payloadsOf audio)) ≡ false
   pub sized : n ≡ length (filmBytes name video audio packing)
 
-pub accepted : (name video audio : List ℕ) (packing : Packing) (n : ℕ) → plannedOf name video audio packing ≡ planned.Size n → Accepted name video audio packing n
+pub accepted : (name video audio : List ℕ) (packing : Packing) (n : ℕ) → plannedOf name video audio packing ≡ written.Size n → Accepted name video audio packing n
 unfolding plannedOf
 accepted name video audio packing n e =
     let film = length (filmBytes name video audio packing) in

@@ -10,18 +10,17 @@ use Rattle.refusal.specs.declared.Cause.the-variants.{TooLong, MarkedPayload, C
 use Rattle.signature.specs.Signatures.{contentsEnd, standsAt}
 use Rattle.codec.specs.declared.Codec.{Codec}
 use Rattle.codec.specs.declared.Codec.the-variants.{Value, Absent}
+use Rattle.written.specs.declared.Written.{Written}
+use Rattle.written.specs.declared.Written.the-variants.{Size, Refused}
 use Rattle.film_plan.specs.declared.Packing.{Packing}
 use Rattle.film_plan.specs.declared.Measured.{Measured}
 use Rattle.film_plan.specs.declared.Measured.the-variants.{Over}
 use Rattle.film_plan.specs.declared.Measured.the-variants as measured
-use Rattle.film_plan.specs.declared.Planned.{Planned}
-use Rattle.film_plan.specs.declared.Planned.the-variants.{Refused}
-use Rattle.film_plan.specs.declared.Planned.the-variants as planned
 use Rattle.film_plan.specs.Payloads.{payloadsOf}
 use Rattle.film_plan.specs.Films.{filmBytes}
 
 -- "15, 16 and 19 to 23 have place 0", and so has 11
-abbrev pub refusedBy : Cause → Planned
+abbrev pub refusedBy : Cause → Written
 refusedBy cause = Refused (record { cause = cause; place = 0 })
 
 -- "an audio codec given"
@@ -39,9 +38,9 @@ abbrev pub measuredIn : ℕ → Measured
 measuredIn size = cond (ltb 0x40000000 size) Over (measured.Size size)
 
 -- a film's size, or the first refusal
-unfoldable pub plannedOf : List ℕ → List ℕ → List ℕ → Packing → Planned
+unfoldable pub plannedOf : List ℕ → List ℕ → List ℕ → Packing → Written
 plannedOf name video audio packing =
     cond (not (packing .audio) && isGiven (packing .«audio_codec»)) (refusedBy CodecAlone)
     (cond (ltb 0x40000000 (length (filmBytes name video audio packing))) (refusedBy TooLong)
     (cond (anyMarked (payloadsOf video) || anyMarked (payloadsOf audio)) (refusedBy MarkedPayload)
-    (planned.Size (length (filmBytes name video audio packing)))))
+    (Size (length (filmBytes name video audio packing)))))

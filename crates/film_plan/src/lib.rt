@@ -13,6 +13,7 @@ use codec::Codec;
 use refusal::Cause;
 use refusal::Refusal;
 use unmasking::Key;
+use written::Written;
 
 // How a film is packed: whether there is audio, both codecs, and the key that masks.
 pub struct Packing {
@@ -32,12 +33,6 @@ pub enum Stream {
 enum Measured {
     Size(usize),
     Over,
-}
-
-// What a film comes to: its size, or why it is refused.
-pub enum Planned {
-    Size(usize),
-    Refused(Refusal),
 }
 
 // The longest container.
@@ -181,14 +176,14 @@ pub fn audio_in(packing: Packing, audio: &[u8]) -> &[u8]
 }
 
 // A refusal, at place 0.
-fn refused(cause: Cause) -> Planned
+fn refused(cause: Cause) -> Written
     ensures { λ r. ⌜ r ≡ refusedBy cause ⌝ }
 {
-    Planned::Refused(Refusal { cause, place: 0 })
+    Written::Refused(Refusal { cause, place: 0 })
 }
 
 // The size of a film, or why it is refused whatever the output. Where there is no audio, `audio` is not looked at.
-pub fn plan(name: &[u8], video: &[u8], audio: &[u8], packing: Packing) -> Planned
+pub fn plan(name: &[u8], video: &[u8], audio: &[u8], packing: Packing) -> Written
     ensures { λ r. ⌜ r ≡ plannedOf (now (name .entry)) (now (video .entry)) (audioIn packing (now (audio .entry))) packing ⌝ }
 {
     if is_alone(packing) {
@@ -204,7 +199,7 @@ pub fn plan(name: &[u8], video: &[u8], audio: &[u8], packing: Packing) -> Planne
             if any_marked(audio) {
                 return refused(Cause::MarkedPayload);
             }
-            Planned::Size(size)
+            Written::Size(size)
         }
     }
 }

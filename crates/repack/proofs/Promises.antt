@@ -6,9 +6,7 @@ use mathlib.Core.Bool.{Bool, true, false, cond}
 use native.Mathlib.Omega.{arith}
 use lib.ListN.{length, take, drop}
 use lib.Seq.{sets-eq, take-at}
-use lib.Dec.{ltb}
-use borrow.Author.Tests.{le-ltb, ltb-false}
-use Rattle.refusal.specs.declared.Refusal.{Refusal}
+use borrow.Author.Tests.{le-ltb}
 use Rattle.reading.specs.declared.Reading.{Reading}
 use Rattle.reading.specs.Choices.{isChosen, appliedTo}
 use Rattle.unmasking.specs.declared.Key.the-variants.{Given}
@@ -21,14 +19,13 @@ use Rattle.extract.specs.declared.Extracted.{Extracted}
 use Rattle.extract.specs.declared.Extracted.the-variants as extracted
 use Rattle.extract.specs.Extraction.{extractedIn, extractedOf, videoOf, audioOf, leftBy, Extraction}
 use Rattle.extract.proofs.Promises.{SizesAreTheStreams, SizesFitTheContainer, OneFilmWhereBitsAgree}
+use Rattle.written.specs.declared.Written.the-variants.{Size}
+use Rattle.written.proofs.RoomLaws.{planned-so}
 use Rattle.film_plan.specs.declared.Packing.{Packing}
-use Rattle.film_plan.specs.declared.Planned.{Planned}
-use Rattle.film_plan.specs.declared.Planned.the-variants as planned
 use Rattle.film_plan.specs.Films.{bytesOf, headerBlocks, audioIn, filmBytes}
 use Rattle.film_plan.specs.Planning.{plannedOf}
 use Rattle.film_plan.proofs.PlanLaws.{Accepted, accepted}
-use Rattle.write.specs.declared.Written.the-variants as written
-use Rattle.write.specs.Writing.{writtenIn, Writing}
+use Rattle.write.specs.Writing.{Writing}
 use Rattle.repack.specs.Promises as promised
 use Rattle.repack.specs.Promises.{CodecFits, headerBack, contentsBack, GivesBack}
 use Rattle.repack.specs.Listing.{linesOf, chunksFrom}
@@ -36,26 +33,16 @@ use Rattle.repack.proofs.FilmBackLaws.{film-is, video-is, audio-is, nam
 
 -- ---- what is known of a film that was written
 
-tested : (t : Bool) (refusal : Refusal) (n size : ℕ) → written.Film size ≡ cond t (written.Refused refusal) (written.Film n) → (t ≡ false) × (n ≡ size)
-tested true refusal n size e = let z : _≡_ {A = ℕ} 0 1 = cc in absurd (omega arith)
-tested false refusal n size e = (refl, cc)
-
-planned-so : (room : ℕ) (p : Planned) (size : ℕ) → written.Film size ≡ writtenIn room p → (p ≡ planned.Size size) × (size ≤ room)
-planned-so room (planned.Size n) size e =
-    let t = tested (ltb room n) _ n size e in
-    (ap planned.Size (t .1), omega (arith, ltb-false room n (t .0), t .1))
-planned-so room (planned.Refused refusal) size e = let z : _≡_ {A = ℕ} 0 1 = cc in absurd (omega arith)
-
 module _ (name video audio : List ℕ) (packing : Packing) (out out′ : List ℕ) (size : ℕ) (mpeg : CodecFits (packing .«mpeg_codec»)) (other : CodecFits (packing .«audio_codec»))
-    (w : Writing name video audio packing out (written.Film size) out′) (reading : Reading) (chosen : isChosen (reading .audio) ≡ true) where
+    (w : Writing name video audio packing out (Size size) out′) (reading : Reading) (chosen : isChosen (reading .audio) ≡ true) where
   abbrev heardOf : List ℕ
   heardOf = audioIn packing audio
 
   abbrev container : List ℕ
   container = filmBytes name video heardOf packing
 
-  so : (plannedOf name video heardOf packing ≡ planned.Size size) × (size ≤ length out)
-  so = planned-so (length out) (plannedOf name video heardOf packing) size (w .0)
+  so : (plannedOf name video heardOf packing ≡ Size size) × (size ≤ length out)
+  so = planned-so (length out) (plannedOf name video heardOf packing) size (sym (w .0))
 
   taken : Accepted name video heardOf packing size
   taken = accepted name video heardOf packing size (so .0)

@@ -16,8 +16,8 @@ use Rattle.extract.specs.declared.Contents.{Contents}
 use Rattle.extract.specs.declared.Extracted.{Extracted}
 use Rattle.extract.specs.declared.Extracted.the-variants as extracted
 use Rattle.extract.specs.Extraction.{contentsOf, Extraction}
+use Rattle.written.specs.declared.Written.the-variants.{Size}
 use Rattle.film_plan.specs.Films.{bytesOf, headerBlocks, audioIn}
-use Rattle.write.specs.declared.Written.the-variants.{Film}
 use Rattle.write.specs.Writing.{Writing}
 use Rattle.repack.specs.Listing.{linesOf, chunksFrom}
 use Rattle.header.specs.declared.Header.{Header}
@@ -56,7 +56,7 @@ GivesBack name video audio packing container seen heard r seen′ heard′ =
 abbrev pub ReadingBack : Type 0
 ReadingBack =
     (name video audio : List ℕ) (packing : Packing) (out out′ : List ℕ) (size : ℕ) (reading : Reading) (seen heard seen′ heard′ : List ℕ) (r : Extracted)
-    → CodecFits (packing .«mpeg_codec») → CodecFits (packing .«audio_codec») → Writing name video audio packing out (Film size) out′ → isChosen (reading .audio) ≡ true
+    → CodecFits (packing .«mpeg_codec») → CodecFits (packing .«audio_codec») → Writing name video audio packing out (Size size) out′ → isChosen (reading .audio) ≡ true
     → length video ≤ length seen → length (audioIn packing audio) ≤ length heard
     → Extraction (take size out′) reading (packing .key) seen heard r seen′ heard′
     → GivesBack name video (audioIn packing audio) packing (take size out′) seen heard r seen′ heard′
@@ -65,7 +65,7 @@ ReadingBack =
 abbrev pub ReadingBackWhereBitsAgree : Type 0
 ReadingBackWhereBitsAgree =
     (name video audio : List ℕ) (packing : Packing) (out out′ : List ℕ) (size key key′ : ℕ) (reading : Reading) (seen heard seen′ heard′ : List ℕ) (r : Extracted)
-    → CodecFits (packing .«mpeg_codec») → CodecFits (packing .«audio_codec») → Writing name video audio packing out (Film size) out′ → isChosen (reading .audio) ≡ true
+    → CodecFits (packing .«mpeg_codec») → CodecFits (packing .«audio_codec») → Writing name video audio packing out (Size size) out′ → isChosen (reading .audio) ≡ true
     → length video ≤ length seen → length (audioIn packing audio) ≤ length heard → packing .key ≡ Given key → AgreeWhereItCounts key key′
     → Extraction (take size out′) reading (Given key′) seen heard r seen′ heard′
     → GivesBack name video (audioIn packing audio) packing (take size out′) seen heard r seen′ heard′
@@ -74,7 +74,7 @@ ReadingBackWhereBitsAgree =
 abbrev pub ListingBack : Type 0
 ListingBack =
     (name video audio : List ℕ) (packing : Packing) (out out′ : List ℕ) (size : ℕ) (reading : Reading)
-    → CodecFits (packing .«mpeg_codec») → CodecFits (packing .«audio_codec») → Writing name video audio packing out (Film size) out′ → isChosen (reading .audio) ≡ true
+    → CodecFits (packing .«mpeg_codec») → CodecFits (packing .«audio_codec») → Writing name video audio packing out (Size size) out′ → isChosen (reading .audio) ≡ true
     → filmOf (take size out′) reading
     ≡ film (headerBack name packing (length (bytesOf (headerBlocks name packing)))) (appliedTo (packing .audio) reading)
     (chunksFrom (length (bytesOf (headerBlocks name packing))) (linesOf video (audioIn packing audio) (packing .audio)))

@@ -13,17 +13,9 @@ ghost use Rattle.film_plan.specs.Films.{lettersOf, bytesOf, inEach, codecIn, he
 ghost use Rattle.write.specs.Writing.{Writing};
 use codec::Codec;
 use film_plan::Packing;
-use film_plan::Planned;
 use film_plan::Stream;
-use refusal::Cause;
-use refusal::Refusal;
 use unmasking::Unmasking;
-
-// What a writing answers: the film's size, or why there is none.
-pub enum Written {
-    Film(usize),
-    Refused(Refusal),
-}
+use written::Written;
 
 // The type of a name's column: data, stored in the row.
 const NAME: u8 = 0x5B;
@@ -334,18 +326,13 @@ fn put_film(out: &mut [u8], name: &[u8], video: &[u8], audio: &[u8], packing: Pa
 pub fn write(name: &[u8], video: &[u8], audio: &[u8], packing: Packing, out: &mut [u8]) -> Written
     ensures { λ r. ⌜ Writing (now (name .entry)) (now (video .entry)) (now (audio .entry)) packing (now (out .entry)) r (now (out .exit)) ⌝ }
 {
-    match film_plan::plan(name, video, audio, packing) {
-        Planned::Size(size) => {
-            if out.len() < size {
-                return Written::Refused(Refusal {
-                    cause: Cause::ShortRoom(size),
-                    place: 0,
-                });
-            }
+    let planned = film_plan::plan(name, video, audio, packing);
+    match written::written_in(out.len(), planned) {
+        Written::Size(size) => {
             let audio = film_plan::audio_in(packing, audio);
             put_film(out, name, video, audio, packing);
-            Written::Film(size)
+            Written::Size(size)
         }
-        Planned::Refused(refusal) => Written::Refused(refusal),
+        Written::Refused(refusal) => Written::Refused(refusal),
     }
 }
