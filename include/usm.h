@@ -107,7 +107,10 @@ void usm_mask_audio(uint64_t key, uint8_t *payload, size_t len);
 #define USM_SHORT_OUTPUT 12   /* the video or the audio output is too short */
 #define USM_SHORT_LIST 13     /* the chunk list is too short */
 #define USM_OVERSIZED 14      /* both streams together exceed the container: it cannot occur (proved) */
+#define USM_MARKED_PAYLOAD 15 /* a payload that would be written begins with the end marker */
+#define USM_SHORT_ROOM 16     /* the output is too short for what would be written */
 #define USM_UNKNOWN_STORAGE 18 /* a column's high nibble is none of 1, 3, 5 and 7, where these are the only ones */
+#define USM_CODEC_ALONE 23    /* an audio codec is given, and no audio */
 
 /*
  * How a film or a table is read. 4 bytes.
@@ -172,8 +175,14 @@ static inline const char *usm_reason(uint8_t number)
         return "the chunk list is too short";
     case USM_OVERSIZED:
         return "streams longer than the film";
+    case USM_MARKED_PAYLOAD:
+        return "a payload begins with the end marker";
+    case USM_SHORT_ROOM:
+        return "the output is too short";
     case USM_UNKNOWN_STORAGE:
         return "unknown storage of a column";
+    case USM_CODEC_ALONE:
+        return "an audio codec without audio";
     default:
         return "a number without a meaning";
     }
@@ -333,6 +342,56 @@ struct usm_list_reply {
  */
 struct usm_list_reply usm_list(const uint8_t *container, size_t len, struct usm_reading reading,
                                struct usm_chunk *list, size_t room);
+
+/*
+ * Writing. What is written goes into the output of `out_len` bytes at `out`, from its first byte on;
+ * bytes past it are unchanged. Where the output is too short it is unchanged, and the reply has the
+ * size: lend it with length 0 to learn the size.
+ */
+
+/* The reply on what is written. 24 bytes. */
+struct usm_size_reply {
+    size_t refused_at;
+    size_t size;          /* how many bytes are written, also beside USM_SHORT_ROOM */
+    uint8_t number;
+    uint8_t unknown_type;
+};
+
+/*
+ * How a film is packed. 32 bytes.
+ *
+ *     key              the key that masks: video, and audio where its codec is ADX, 2; or none
+ *     video_codec, audio_codec
+ *                      what the header gives as codecs, where they are given: 9 makes the video ivf, 4
+ *                      the audio hca (see above). Every number is one
+ *     has_audio        0: there is no audio, and `audio` is not looked at. Every other number: there is,
+ *                      be it empty
+ *     has_video_codec, has_audio_codec
+ *                      0: no codec is given, and its number is not looked at. Every other number: it is
+ */
+struct usm_packing {
+    struct usm_key key;
+    uint32_t video_codec;
+    uint32_t audio_codec;
+    uint8_t has_audio;
+    uint8_t has_video_codec;
+    uint8_t has_audio_codec;
+};
+
+/*
+ * Writes a film: the name, which is any bytes, and both streams, which are clear. Extracting it with
+ * audio taken and the same key, or none in both, gives back the name, both codecs, whether there is
+ * audio, and both streams (proved). Payloads have 65,536 bytes, the last of a stream the rest, and
+ * stand by turns, video first.
+ *
+ * Of the numbers it gives, in this order: USM_CODEC_ALONE; USM_TOO_LONG, where the film would be longer
+ * than USM_CONTAINER_BYTES; USM_MARKED_PAYLOAD, where a payload begins with the 13 letters of the end
+ * marker, "#CONTENTS END", since it would be skipped when it is read; USM_SHORT_ROOM. `refused_at` is 0
+ * beside each. Nothing else is refused. A film that is written has 416 bytes at least.
+ */
+struct usm_size_reply usm_write(const uint8_t *name, size_t name_len, const uint8_t *video,
+                                size_t video_len, const uint8_t *audio, size_t audio_len,
+                                struct usm_packing packing, uint8_t *out, size_t out_len);
 
 #ifdef __cplusplus
 }

@@ -11,6 +11,7 @@ use Rattle.usm.proofs.usm_table.Reads as usm-table
 use Rattle.usm.proofs.usm_cell.Reads as usm-cell
 use Rattle.usm.proofs.usm_extract.Reads as usm-extract
 use Rattle.usm.proofs.usm_list as usm-list
+use Rattle.usm.proofs.writing.usm_write.Reads as usm-write
 
 pub usm-table-once : (κs : _) (args : _) (r r′ : _) (exit exit′ : _) → usm-table.Learnt κs args r exit → usm-table.Learnt κs args r′ exit′ → r ≡ r′
 usm-table-once κs args r r′ exit exit′ = no-second-answer
@@ -21,6 +22,10 @@ usm-cell-once κs args r r′ exit exit′ = no-second-answer
 pub usm-extract-once : (κs : _) (args : _) (r r′ : _) (exit exit′ : _) → usm-extract.Learnt κs args r exit → usm-extract.Learnt κs args r′ exit′
     → (r ≡ r′) × (exit .1 .1 .1 .1 .0 .now ≡ exit′ .1 .1 .1 .1 .0 .now) × (exit .1 .1 .1 .1 .1 .0 .now ≡ exit′ .1 .1 .1 .1 .1 .0 .now)
 usm-extract-once κs args r r′ exit exit′ l l′ = (no-second-answer (l .0) (l′ .0), no-second-answer (l .1) (l′ .1), no-second-answer (l .2) (l′ .2))
+
+pub usm-write-once : (κs : _) (args : _) (r r′ : _) (exit exit′ : _) → usm-write.Learnt κs args r exit → usm-write.Learnt κs args r′ exit′
+    → (r ≡ r′) × (exit .1 .1 .1 .1 .0 .now ≡ exit′ .1 .1 .1 .1 .0 .now)
+usm-write-once κs args r r′ exit exit′ l l′ = (no-second-answer (l .0) (l′ .0), no-second-answer (l .1) (l′ .1))
 
 -- Of a function over a slice of structs no `Reads` is made. What a caller learns of it is read off its contract here, in the same way.
 module _ (κs : Lfts 2) (args : ArgsD usm-list.signature κs) (r : ResD usm-list.signature κs) (exit : AtExit usm-list.ended κs) where

@@ -1,5 +1,7 @@
 // What another program links: tables and cells, whole films and their chunks. Each function returns its reply by value.
 // Declared for C in include/usm.h; `rt staticlib usm` builds the library.
+mod writing;
+
 ghost use mathlib.Core.Path.{_≡_};
 ghost use Rattle.table.specs.Tables.{tableAt};
 ghost use Rattle.lookup.specs.Lookups.{cellOf};

@@ -1,0 +1,39 @@
+-- A film written for C: what is asked for, what is replied, and the output after it. Ours, beyond the rules.
+use Prim.Native.Nat.{ℕ}
+use mathlib.Core.Path.{_≡_}
+use mathlib.Core.List.{List}
+use mathlib.Core.Bool.{cond, not}
+use lib.ListN.{length}
+use lib.Dec.{eqb}
+use Rattle.codec.specs.declared.Codec.{Codec}
+use Rattle.codec.specs.declared.Codec.the-variants.{Value, Absent}
+use Rattle.unmasking.specs.Unmasking.{keyBy}
+use Rattle.written.specs.declared.Written.{Written}
+use Rattle.written.specs.declared.SizeReply.{SizeReply}
+use Rattle.written.specs.Written.{writtenIn, leftBy, sizeReply}
+use Rattle.film_plan.specs.declared.Packing.{Packing}
+use Rattle.film_plan.specs.Films.{audioIn, filmBytes}
+use Rattle.film_plan.specs.Planning.{plannedOf}
+use Rattle.usm.specs.declared.writing.PackingBytes.{PackingBytes}
+
+-- a codec by two numbers: 0 for the first means that there is none
+abbrev pub codecBy : ℕ → ℕ → Codec
+codecBy given number = cond (eqb given 0) Absent (Value number)
+
+-- how a film is packed: 0 for `has_audio` means that there is none
+abbrev pub packingBy : PackingBytes → Packing
+packingBy asked = record {
+  audio = not (eqb (asked .«has_audio») 0);
+  «mpeg_codec» = codecBy (asked .«has_video_codec») (asked .«video_codec»);
+  «audio_codec» = codecBy (asked .«has_audio_codec») (asked .«audio_codec»);
+  key = keyBy (asked .key .given) (asked .key .number);
+}
+
+-- what is replied where so many bytes are to be written into an output, or none are, and the output after it
+abbrev pub WrittenAs : Written → List ℕ → List ℕ → SizeReply → List ℕ → Type 0
+WrittenAs answer bytes out r out′ = (r ≡ sizeReply answer) × (out′ ≡ leftBy answer out bytes)
+
+-- the same for a film. Where there is no audio, the slice that is given for it is not looked at
+abbrev pub WrittenFor : List ℕ → List ℕ → List ℕ → Packing → List ℕ → SizeReply → List ℕ → Type 0
+WrittenFor name video audio packing out r out′ =
+    WrittenAs (writtenIn (length out) (plannedOf name video (audioIn packing audio) packing)) (filmBytes name video (audioIn packing audio) packing) out r out′
