@@ -3,6 +3,7 @@
  * same answers, then the time of both under one clock and in turns. compare/before builds it.
  */
 #define _POSIX_C_SOURCE 200809L
+#include "../hard_use/chance.h"
 #include "usm.h"
 
 #include <stdio.h>
@@ -44,15 +45,12 @@ static const uint64_t KEYS[] = {0, UINT64_MAX, 0x00123456789ABCDE};
 
 static uint8_t payload[LONGEST], other[CHECKED];
 
+/* The same bytes each time. */
 static void fill(uint8_t *bytes, size_t len)
 {
-    uint64_t state = 1;
-    size_t i;
+    struct chance chance = {1};
 
-    for (i = 0; i < len; i++) {
-        state = state * 6364136223846793005u + 1442695040888963407u;
-        bytes[i] = (uint8_t)(state >> 56);
-    }
+    fill_by_chance(&chance, bytes, len);
 }
 
 /* Every length up to 1,400 with each key. */
