@@ -6,8 +6,10 @@
 
 mod clock;
 mod damage;
+mod goal;
 mod hex;
 mod panics;
+mod progress;
 mod random;
 mod reply;
 mod shrink;
@@ -82,11 +84,14 @@ use std::io;
 use std::path::Path;
 use std::process::ExitCode;
 
+use goal::Goal;
+use progress::say;
+
 /// What is compared: the check, the timing, and the record for the gate's replay.
 struct Part {
     name: &'static str,
     check: fn() -> bool,
-    time: fn(),
+    time: fn() -> Vec<Goal>,
     record: fn(&Path) -> io::Result<()>,
 }
 
@@ -107,9 +112,10 @@ static PARTS: [Part; 3] = [
         name: "containers",
         check: || report(containers::check::run(), |tally| tally.print()),
         time: || {
-            containers::timing::run();
+            let goals = containers::timing::run();
             println!();
             containers::walk_timing::run();
+            goals
         },
         record: containers::record::write,
     },
@@ -119,12 +125,9 @@ fn main() -> ExitCode {
     let words: Vec<String> = std::env::args().skip(1).collect();
     let words: Vec<&str> = words.iter().map(String::as_str).collect();
     match words[..] {
-        ["check", ref names @ ..] if known(names) => status(chosen(names).all(|part| (part.check)())),
+        ["check", ref names @ ..] if known(names) => status(chosen(names).all(check)),
         ["time", ref names @ ..] if known(names) => {
-            for part in chosen(names) {
-                (part.time)();
-                println!();
-            }
+            goal::print(&chosen(names).flat_map(time).collect::<Vec<_>>());
             ExitCode::SUCCESS
         }
         ["record", folder] => status(PARTS.iter().all(|part| record(part, Path::new(folder)))),
@@ -143,6 +146,19 @@ fn known(names: &[&str]) -> bool {
 /// The parts of these names, or all where none is named.
 fn chosen(names: &[&str]) -> impl Iterator<Item = &'static Part> {
     PARTS.iter().filter(|part| names.is_empty() || names.contains(&part.name))
+}
+
+fn check(part: &Part) -> bool {
+    say(&format!("checking {}", part.name));
+    (part.check)()
+}
+
+/// The goals of a part, with their ratios; its table is printed before.
+fn time(part: &Part) -> Vec<Goal> {
+    say(&format!("timing {}", part.name));
+    let goals = (part.time)();
+    println!();
+    goals
 }
 
 fn status(success: bool) -> ExitCode {

@@ -14,12 +14,12 @@ use super::tally::Tally;
 use super::{damage, generate, hostile, samples};
 use crate::hex::input;
 use crate::panics;
+use crate::progress::Progress;
 use crate::random::Random;
 
 const RANDOM_BATCHES: u64 = 300;
 const RANDOM_IN_BATCH: u64 = 1000;
 const DAMAGED_RANDOM: u64 = 12;
-const PROGRESS: u64 = 50_000;
 /// Of longer containers made by hand no damaged copies are read.
 const MOST_DAMAGED: usize = 4096;
 
@@ -109,8 +109,12 @@ pub fn run() -> Result<Tally, Disagreement> {
     panics::silence();
     null_is_allowed()?;
     let batches = batches();
-    let work =
-        Work { batches: &batches, next: AtomicUsize::new(0), stop: AtomicBool::new(false), done: Mutex::default() };
+    let work = Work {
+        batches: &batches,
+        next: AtomicUsize::new(0),
+        stop: AtomicBool::new(false),
+        done: Mutex::new(Done::new()),
+    };
     let threads = thread::available_parallelism().map_or(1, |threads| threads.get());
     thread::scope(|scope| {
         for _ in 0..threads {
@@ -133,11 +137,17 @@ struct Work<'a> {
     done: Mutex<Done>,
 }
 
-#[derive(Default)]
 struct Done {
     tally: Tally,
+    progress: Progress,
     /// The first case that differs.
     failed: Option<Case>,
+}
+
+impl Done {
+    fn new() -> Done {
+        Done { tally: Tally::default(), progress: Progress::of("containers"), failed: None }
+    }
 }
 
 impl Work<'_> {
@@ -169,11 +179,9 @@ impl Work<'_> {
     /// Adds a batch to what is done, and says whether to stop.
     fn finish(&self, tally: &Tally, failed: Option<Case>) -> bool {
         let mut done = self.done.lock().expect("no thread has panicked");
-        let before = done.tally.containers;
         done.tally.join(tally);
-        if before / PROGRESS < done.tally.containers / PROGRESS {
-            eprintln!("{} containers agreed so far", done.tally.containers);
-        }
+        let agreed = done.tally.containers;
+        done.progress.at(agreed);
         if done.failed.is_none() {
             done.failed = failed;
         }

@@ -10,11 +10,11 @@ use super::tally::Tally;
 use super::{damage, generate, samples};
 use crate::hex::input;
 use crate::panics;
+use crate::progress::Progress;
 use crate::random::Random;
 
 const RANDOM_TABLES: u64 = 200_000;
 const DAMAGED_TABLES: u64 = 200;
-const PROGRESS: u64 = 50_000;
 
 /// The first table that differs, made small.
 pub struct Disagreement {
@@ -35,25 +35,25 @@ impl fmt::Display for Disagreement {
 /// Every comparison; gives the counts, or the first that differs.
 pub fn run() -> Result<Tally, Disagreement> {
     panics::silence();
-    let mut tally = Tally::default();
+    let mut done = Done { tally: Tally::default(), progress: Progress::of("tables") };
     let mut random = Random(5);
     for sample in samples::all() {
-        agree(&sample, &mut tally)?;
-        agree_damaged(&sample, &mut tally, &mut random)?;
+        done.agree(&sample)?;
+        done.agree_damaged(&sample, &mut random)?;
     }
     for type_byte in 0..=u8::MAX {
         for rows in [0, 1, 3] {
-            agree(&generate::with_column(type_byte, rows, &mut random), &mut tally)?;
+            done.agree(&generate::with_column(type_byte, rows, &mut random))?;
         }
     }
     for _ in 0..RANDOM_TABLES {
-        agree(&generate::any(&mut random), &mut tally)?;
+        done.agree(&generate::any(&mut random))?;
     }
     for _ in 0..DAMAGED_TABLES {
-        agree_damaged(&generate::small(&mut random), &mut tally, &mut random)?;
+        done.agree_damaged(&generate::small(&mut random), &mut random)?;
     }
     null_is_allowed()?;
-    Ok(tally)
+    Ok(done.tally)
 }
 
 /// NULL with length 0 is a slice like any other, and is refused with 1.
@@ -64,20 +64,21 @@ fn null_is_allowed() -> Result<(), Disagreement> {
     }
 }
 
-fn agree_damaged(case: &Case, tally: &mut Tally, random: &mut Random) -> Result<(), Disagreement> {
-    damage::copies(case, random).iter().try_for_each(|copy| agree(copy, tally))
+/// What has agreed so far.
+struct Done {
+    tally: Tally,
+    progress: Progress,
 }
 
-fn agree(case: &Case, tally: &mut Tally) -> Result<(), Disagreement> {
-    match compare(case) {
-        Ok(seen) => {
-            tally.add(seen);
-            if tally.tables().is_multiple_of(PROGRESS) {
-                println!("{} tables agreed so far", tally.tables());
-            }
-            Ok(())
-        }
-        Err(_) => Err(disagreement(case)),
+impl Done {
+    fn agree_damaged(&mut self, case: &Case, random: &mut Random) -> Result<(), Disagreement> {
+        damage::copies(case, random).iter().try_for_each(|copy| self.agree(copy))
+    }
+
+    fn agree(&mut self, case: &Case) -> Result<(), Disagreement> {
+        self.tally.add(compare(case).map_err(|_| disagreement(case))?);
+        self.progress.at(self.tally.tables());
+        Ok(())
     }
 }
 
