@@ -237,7 +237,8 @@ static void print_chunks(const struct film *film)
     usm_list(film->bytes, film->len, USM_READ_WITH_AUDIO, list, count);
     printf("chunks %zu\n", count);
     for (i = 0; i < count; i++)
-        printf("%zu %s %d %zu\n", list[i].start, CHUNK_KINDS[list[i].kind], list[i].data_type, list[i].length);
+        printf("%zu %s %d %zu %d\n", list[i].start, CHUNK_KINDS[list[i].kind], list[i].data_type, list[i].length,
+               list[i].channel);
     free(list);
 }
 

@@ -101,6 +101,7 @@ static void try_layout(void)
     CHECK(offsetof(struct usm_chunk, start) == 0);
     CHECK(offsetof(struct usm_chunk, kind) == 8);
     CHECK(offsetof(struct usm_chunk, data_type) == 9);
+    CHECK(offsetof(struct usm_chunk, channel) == 10);
     CHECK(offsetof(struct usm_chunk, length) == 16);
 }
 

@@ -115,16 +115,18 @@ void usm_mask_audio(uint64_t key, uint8_t *payload, size_t len);
 /*
  * How a film or a table is read. 4 bytes.
  *
- *     audio     0: audio is not taken. Its payloads are skipped, unchecked, so a film may be accepted
- *               without audio and refused with it. Every other number: all audio is taken. Tables that
- *               are read by themselves do not look at it
+ *     audio     USM_AUDIO_NONE, 0: audio is not taken. Its payloads are skipped, unchecked, so a film
+ *               may be accepted without audio and refused with it. USM_AUDIO_CHANNEL, 2: audio of one
+ *               channel is taken, and that of the others skipped in the same way. Every other number:
+ *               all audio is taken, the channels joined as the original joins them. Tables that are
+ *               read by themselves do not look at it
+ *     channel   the channel, where audio is USM_AUDIO_CHANNEL: 0 to 255. Else it is not looked at
  *     tables    USM_TABLES_ZERO_COLUMNS: a column whose type byte has the high nibble 1 stores nothing;
  *               its numbers and floats are 0, its strings and data empty. 1, 3, 5 and 7 are the only
  *               high nibbles, and another is USM_UNKNOWN_STORAGE. Every other number: as the original
  *               reads them, where such a column has a value in each row
- *     channel, payloads
- *               room for choices to come. Today no number of theirs changes anything; 0 will go on
- *               to mean what happens today
+ *     payloads  room for a choice to come. Today no number of it changes anything; 0 will go on to
+ *               mean what happens today
  */
 struct usm_reading {
     uint8_t audio;
@@ -133,13 +135,25 @@ struct usm_reading {
     uint8_t tables;
 };
 
+/* Which audio is taken. */
+#define USM_AUDIO_NONE 0
+#define USM_AUDIO_ALL 1
+#define USM_AUDIO_CHANNEL 2
+
 /* The two ways to read tables. */
 #define USM_TABLES_ORIGINAL 0
 #define USM_TABLES_ZERO_COLUMNS 1
 
-/* Ready readings: tables as the original reads them, with audio and without. */
-static const struct usm_reading USM_READ_WITH_AUDIO = {1, 0, 0, USM_TABLES_ORIGINAL};
-static const struct usm_reading USM_READ_VIDEO_ONLY = {0, 0, 0, USM_TABLES_ORIGINAL};
+/* Ready readings: tables as the original reads them, with all audio and without. */
+static const struct usm_reading USM_READ_WITH_AUDIO = {USM_AUDIO_ALL, 0, 0, USM_TABLES_ORIGINAL};
+static const struct usm_reading USM_READ_VIDEO_ONLY = {USM_AUDIO_NONE, 0, 0, USM_TABLES_ORIGINAL};
+
+/* The same with audio of one channel. */
+static inline struct usm_reading usm_read_channel(uint8_t channel)
+{
+    struct usm_reading reading = {USM_AUDIO_CHANNEL, channel, 0, USM_TABLES_ORIGINAL};
+    return reading;
+}
 
 /* The reason that a number stands for, in words. Every number has one. */
 static inline const char *usm_reason(uint8_t number)
@@ -310,18 +324,20 @@ struct usm_film_reply usm_extract(const uint8_t *container, size_t len, struct u
                                   struct usm_key key, const uint8_t *fallback, size_t fallback_len,
                                   uint8_t *video, size_t video_len, uint8_t *audio, size_t audio_len);
 
-/* A chunk: the byte of the container where it starts, its kind, its data type (0 to 3), and the bytes
- * of its payload, which begins at start + 32 and lies within the container (proved); 0 where it is
- * skipped. 24 bytes. */
+/* A chunk: the byte of the container where it starts, its kind, its data type (0 to 3), its channel
+ * (byte 12 of any kind of chunk), and the bytes of its payload, which begins at start + 32 and lies
+ * within the container (proved); 0 where it is skipped. 24 bytes. */
 struct usm_chunk {
     size_t start;
     uint8_t kind;
     uint8_t data_type;
+    uint8_t channel;
     size_t length;
 };
 
 /* Kinds of chunks. Skipped are the ends of streams, chunks of other letters than @SFV and @SFA, and
- * audio where it is not taken or the film's header has none: its kind is audio still. */
+ * audio where it is not taken, is of another channel than the one that is, or the film's header has
+ * none: its kind is audio still. */
 #define USM_CHUNK_VIDEO 0
 #define USM_CHUNK_AUDIO 1
 #define USM_CHUNK_OTHER 2

@@ -56,11 +56,11 @@ module _ (container : List ℕ) (c : ℕ) (opening : Opening) where
     present h = rw (le-ltb _ _ large, ← made, le-ltb _ _ h)
 
 module _ (container : List ℕ) (reading : Applied) (c : ℕ) where
-  pub taken : (opening : Opening) → isTaken reading (opening .kind) ≡ true → takenAt container c opening ≡ openedAt container reading c opening
+  pub taken : (opening : Opening) → isTaken reading (opening .kind) (opening .channel) ≡ true → takenAt container c opening ≡ openedAt container reading c opening
   unfolding openedAt
   taken opening e = rw e
 
-  pub skipped : (opening : Opening) → isTaken reading (opening .kind) ≡ false → Found (chunkOf c opening 0) ≡ openedAt container reading c opening
+  pub skipped : (opening : Opening) → isTaken reading (opening .kind) (opening .channel) ≡ false → Found (chunkOf c opening 0) ≡ openedAt container reading c opening
   unfolding openedAt
   skipped opening e = rw e
 

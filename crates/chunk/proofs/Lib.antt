@@ -1,5 +1,6 @@
 pub mod CaseLaws
 pub mod FoundLaws
+pub mod ChannelLaws
 pub mod OneAnswer
 pub mod OpeningLaws
 pub mod Promises

@@ -8,7 +8,7 @@ use denote.Ref.{RefT, now}
 use Rattle.refusal.specs.declared.Cause.{Cause}
 use Rattle.refusal.specs.declared.Cause.the-variants.{RanOut, TooSmall}
 use Rattle.reading.specs.declared.Applied.{Applied}
-use Rattle.reading.specs.Choices.{isChosen}
+use Rattle.reading.specs.Choices.{takesChannel}
 use Rattle.part.specs.Parts.{partAt, IsPart, PartAt}
 use Rattle.chunk.specs.declared.Kind.{Kind}
 use Rattle.chunk.specs.declared.Kind.the-variants.{Video, Audio, Other, End}
@@ -25,16 +25,16 @@ kindNumber Audio = 1
 kindNumber Other = 2
 kindNumber End = 3
 
--- "`@SFV` payloads go to video, `@SFA` to audio if present and chosen; others are skipped"
-abbrev pub isTaken : Applied → Kind → Bool
-isTaken reading Video = true
-isTaken reading Audio = isChosen (reading .audio)
-isTaken reading Other = false
-isTaken reading End = false
+-- "`@SFV` payloads go to video, `@SFA` to audio if present and chosen; others are skipped". "Audio of another channel is skipped like audio not chosen"
+abbrev pub isTaken : Applied → Kind → ℕ → Bool
+isTaken reading Video channel = true
+isTaken reading Audio channel = takesChannel (reading .audio) channel
+isTaken reading Other channel = false
+isTaken reading End channel = false
 
 -- "next at c + 8 + block size. .. The payload starts at c + 0x20 whatever the header size says". n is the payload's length
 unfoldable pub chunkOf : ℕ → Opening → ℕ → Chunk
-chunkOf c opening n = record { start = c; kind = opening .kind; «data_type» = opening .«data_type»; next = c + 8 + opening .block; payload = c + 0x20; len = n }
+chunkOf c opening n = record { start = c; kind = opening .kind; channel = opening .channel; «data_type» = opening .«data_type»; next = c + 8 + opening .block; payload = c + 0x20; len = n }
 
 -- "the start of the block being read"
 abbrev pub refusedAt : ℕ → Cause → ChunkStep
@@ -52,7 +52,7 @@ takenAt container c opening =
 
 -- "others are skipped with no size check"; "payload length (0 if skipped)"
 unfoldable pub openedAt : List ℕ → Applied → ℕ → Opening → ChunkStep
-openedAt container reading c opening = cond (isTaken reading (opening .kind)) (takenAt container c opening) (Found (chunkOf c opening 0))
+openedAt container reading c opening = cond (isTaken reading (opening .kind) (opening .channel)) (takenAt container c opening) (Found (chunkOf c opening 0))
 
 -- "At c, fewer than 4 bytes left: clean end. .. 4 to 44 left: 1."
 unfoldable pub chunkAt : List ℕ → Applied → ℕ → ChunkStep

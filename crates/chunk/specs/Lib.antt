@@ -1,3 +1,4 @@
 pub mod Chunks
 pub mod Openings
+pub mod Channels
 pub mod Promises

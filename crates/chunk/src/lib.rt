@@ -27,11 +27,12 @@ pub struct Opening {
     pub data_type: u8,
 }
 
-// A chunk: where it starts, what it is, its data type, where the next one starts, where its payload starts and how long that
-// is (0 if it is skipped).
+// A chunk: where it starts, what it is, its channel, its data type, where the next one starts, where its payload starts and
+// how long that is (0 if it is skipped).
 pub struct Chunk {
     pub start: usize,
     pub kind: Kind,
+    pub channel: u8,
     pub data_type: u8,
     pub next: usize,
     pub payload: usize,
@@ -106,15 +107,15 @@ fn opening_at(container: &[u8], place: usize) -> Opening
     opening_of(&container[place..end])
 }
 
-// Whether the payload of such a chunk is taken.
-fn is_taken(reading: Applied, kind: Kind) -> bool
-    ensures { λ r. ⌜ r ≡ isTaken reading kind ⌝ }
+// Whether the payload of a chunk of such a kind and channel is taken.
+fn is_taken(reading: Applied, kind: Kind, channel: u8) -> bool
+    ensures { λ r. ⌜ r ≡ isTaken reading kind channel ⌝ }
 {
     match kind {
         Kind::Video => true,
         Kind::Audio => {
             let choice = reading.audio;
-            reading::is_chosen(choice)
+            reading::takes_channel(choice, channel)
         }
         Kind::Other => false,
         Kind::End => false,
@@ -132,6 +133,7 @@ fn chunk_of(place: usize, opening: Opening, len: usize) -> Chunk
     Chunk {
         start: place,
         kind,
+        channel: opening.channel,
         data_type: opening.data_type,
         next,
         payload,
@@ -169,7 +171,7 @@ fn opened_at(container: &[u8], place: usize, reading: Applied, opening: Opening)
     ensures { λ r. ⌜ r ≡ openedAt (now (container .entry)) reading place opening ⌝ }
 {
     let kind = opening.kind;
-    if is_taken(reading, kind) {
+    if is_taken(reading, kind, opening.channel) {
         return taken_at(container, place, opening);
     }
     ChunkStep::Found(chunk_of(place, opening, 0))

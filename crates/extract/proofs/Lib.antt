@@ -1,4 +1,5 @@
 pub mod StreamLaws
+pub mod ChannelLaws
 pub mod WrittenLaws
 pub mod AnswerLaws
 pub mod ResultLaws

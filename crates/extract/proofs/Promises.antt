@@ -11,6 +11,7 @@ use lib.Dec.{leb, eqb}
 use borrow.Author.Tests.{leb-true, leb-false}
 use Rattle.laws.specs.Lists.{at}
 use Rattle.laws.proofs.OneAnswer.{no-second-answer}
+use Rattle.reading.specs.declared.AudioChoice.the-variants.{Chosen}
 use Rattle.codec.specs.declared.Codec.{Codec}
 use Rattle.key.specs.KeyTable.{keysOf}
 use Rattle.key.specs.CountingBits.{AgreeWhereItCounts}
@@ -21,17 +22,22 @@ use Rattle.mask.specs.Positions.{difference, videoDiffers, audioDiffers}
 use Rattle.mask.specs.Promises.{apart}
 use Rattle.mask.proofs.Promises.{ShortVideoStays, VideoDiffersByD, AudioDiffersByD}
 use Rattle.chunk.specs.Chunks.{payloadOf}
+use Rattle.walk.specs.Walks.{walkFrom}
 use Rattle.walk.proofs.Promises.{SizesFitWhatIsLeft}
 use Rattle.unmasking.specs.declared.Key.the-variants.{Given}
 use Rattle.unmasking.specs.declared.Unmasking.{Unmasking}
 use Rattle.unmasking.specs.Unmasking.{isAdx, unmaskingOf}
 use Rattle.film.specs.Films.{Film, film, refused, filmOf, surveyOf}
+use Rattle.film.specs.Promises.{withAudio}
+use Rattle.film.proofs.FilmLaws.{surveyed-film}
+use Rattle.film.proofs.Promises.{OneChannelOfAFilm}
 use Rattle.extract.specs.declared.Extracted.the-variants as extracted
-use Rattle.extract.specs.Streams.{videoPart, audioPart, videoStream, audioStream}
+use Rattle.extract.specs.Streams.{videoPart, audioPart, videoStream, audioStream, onChannel}
 use Rattle.extract.specs.Extraction.{extractedIn, videoOf, audioOf}
 use Rattle.extract.specs.Promises as promised
 use Rattle.extract.specs.Promises.{SameFrom}
 use Rattle.extract.proofs.StreamLaws.{videoUnder, audioUnder, stream-length}
+use Rattle.extract.proofs.ChannelLaws.{video-stays, audio-is-its-pieces, sum-as, all-channelled, channels-sum}
 use Rattle.extract.proofs.AnswerLaws.{its-film, its-sizes}
 use Rattle.extract.proofs.ResultLaws.{stays-past, both-hold, video-at, audio-at}
 
@@ -123,3 +129,20 @@ AudioDiffersPayloadByPayload container reading key key′ video audio videoAfter
     ap₂ bitXor (audio-at container reading header applied before after chunk f (Given key) video audio videoAfter audioAfter contents e p h)
     (audio-at container reading header applied before after chunk f (Given key′) video audio videoAfter′ audioAfter′ contents′ e′ p h)
     ∙ audio-by key key′ (audioPart (chunk .kind) (payloadOf container chunk)) p h (isAdx (header .«audio_codec») && eqb (chunk .«data_type») 0)
+
+-- ---- one channel
+
+pub OneChannelIsItsPieces : promised.OneChannelIsItsPieces
+OneChannelIsItsPieces container reading key channel header applied chunks e =
+    let by = unmaskingOf key (header .«audio_codec») in
+    let one = OneChannelOfAFilm container reading channel header applied chunks e in
+    (ap (videoOf container key) one ∙ video-stays container by channel chunks, ap (audioOf container key) one ∙ audio-is-its-pieces container by channel chunks)
+
+pub ChannelSizesSumToAll : promised.ChannelSizesSumToAll
+ChannelSizesSumToAll container reading key header applied chunks bytes e =
+    let by = unmaskingOf key (header .«audio_codec») in
+    let walked : filmOf container (withAudio Chosen reading) ≡ film header applied (walkFrom container applied (header .start) .chunks) =
+    surveyed-film container (withAudio Chosen reading) header applied _ _ _ (ap surveyOf e) in
+    let all : walkFrom container applied (header .start) .chunks ≡ chunks = cc in
+    sum-as _ (λ channel. length (audioStream container by (onChannel channel chunks))) (λ channel. ap length (OneChannelIsItsPieces container reading key channel header applied chunks e .1)) 256
+    ∙ channels-sum container by chunks (rw all at (all-channelled container applied bytes (header .start))) ∙ sym (ap (λ (f : Film). length (audioOf container key f)) e)

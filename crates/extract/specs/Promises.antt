@@ -1,10 +1,11 @@
 -- What the mission promises of a whole film. Each is proved under the same name in proofs/Promises.antt.
-use Prim.Native.Nat.{ℕ, _+_, _%_, _≤_, _<_}
+use Prim.Native.Nat.{ℕ, zero, suc, _+_, _%_, _≤_, _<_}
 use mathlib.Core.Path.{_≡_}
 use mathlib.Core.List.{List, _∷_, _++_}
 use mathlib.Core.Bool.{cond, _&&_}
 use lib.ListN.{length, drop}
 use lib.Dec.{leb, eqb}
+use Rattle.reading.specs.declared.AudioChoice.the-variants.{Chosen, Channel}
 use Rattle.reading.specs.declared.Reading.{Reading}
 use Rattle.reading.specs.declared.Applied.{Applied}
 use Rattle.refusal.specs.declared.Refusal.{Refusal}
@@ -12,18 +13,20 @@ use Rattle.key.specs.CountingBits.{AgreeWhereItCounts}
 use Rattle.mask.specs.Positions.{difference, videoDiffers, audioDiffers}
 use Rattle.mask.specs.Promises.{apart}
 use Rattle.chunk.specs.declared.Chunk.{Chunk}
+use Rattle.chunk.specs.Openings.{Bytes}
 use Rattle.chunk.specs.Chunks.{payloadOf}
 use Rattle.walk.specs.Walks.{videoSize, audioSize}
 use Rattle.unmasking.specs.declared.Key.{Key}
 use Rattle.unmasking.specs.declared.Key.the-variants.{Given}
-use Rattle.unmasking.specs.Unmasking.{isAdx}
+use Rattle.unmasking.specs.Unmasking.{isAdx, unmaskingOf}
 use Rattle.header.specs.declared.Header.{Header}
 use Rattle.film.specs.Films.{film, filmOf, surveyOf}
+use Rattle.film.specs.Promises.{withAudio}
 use Rattle.film.specs.declared.Surveyed.the-variants as survey
 use Rattle.extract.specs.declared.Contents.{Contents}
 use Rattle.extract.specs.declared.Extracted.{Extracted}
 use Rattle.extract.specs.declared.Extracted.the-variants as extracted
-use Rattle.extract.specs.Streams.{videoPart, audioPart}
+use Rattle.extract.specs.Streams.{videoPart, audioPart, videoStream, audioStream, onChannel}
 use Rattle.extract.specs.Extraction.{videoOf, audioOf, Extraction}
 
 -- "Over a container, no key and no lack of one changes a refusal, name, codec, size": two results that meet the contract on one container, into outputs of the same lengths, are equal
@@ -96,3 +99,25 @@ AudioDiffersPayloadByPayload =
     → filmOf container reading ≡ film header applied (before ++ chunk ∷ after) → p < length (audioPart (chunk .kind) (payloadOf container chunk))
     → apart audioAfter audioAfter′ (audioSize before + p)
     ≡ cond ((isAdx (header .«audio_codec») && eqb (chunk .«data_type») 0) && audioDiffers p) (difference key key′ (p % 0x20)) 0
+
+-- Request 2, "one channel": of a film that is accepted with all audio, each channel's stream is the pieces of the joined stream whose chunks have that channel, in
+-- order. The video stays. A film that is refused with all audio may be accepted with one channel: nothing is said of it here
+abbrev pub OneChannelIsItsPieces : Type 0
+OneChannelIsItsPieces =
+    (container : List ℕ) (reading : Reading) (key : Key) (channel : ℕ) (header : Header) (applied : Applied) (chunks : List Chunk)
+    → filmOf container (withAudio Chosen reading) ≡ film header applied chunks
+    → (videoOf container key (filmOf container (withAudio (Channel channel) reading)) ≡ videoStream container (unmaskingOf key (header .«audio_codec»)) chunks)
+    × (audioOf container key (filmOf container (withAudio (Channel channel) reading)) ≡ audioStream container (unmaskingOf key (header .«audio_codec»)) (onChannel channel chunks))
+
+-- f 0 + f 1 + .. + f (n - 1)
+unfoldable pub sumTo : (ℕ → ℕ) → ℕ → ℕ
+sumTo f zero = 0
+sumTo f (suc n) = sumTo f n + f n
+
+-- and the sizes of its 256 channels sum to the size of all
+abbrev pub ChannelSizesSumToAll : Type 0
+ChannelSizesSumToAll =
+    (container : List ℕ) (reading : Reading) (key : Key) (header : Header) (applied : Applied) (chunks : List Chunk) → Bytes container
+    → filmOf container (withAudio Chosen reading) ≡ film header applied chunks
+    → sumTo (λ channel. length (audioOf container key (filmOf container (withAudio (Channel channel) reading)))) 256
+    ≡ length (audioOf container key (filmOf container (withAudio Chosen reading)))

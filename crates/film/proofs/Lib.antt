@@ -1,2 +1,3 @@
 pub mod FilmLaws
 pub mod OneAnswer
+pub mod Promises

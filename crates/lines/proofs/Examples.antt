@@ -7,9 +7,9 @@ use Rattle.walk.specs.Walks.{joined}
 use Rattle.text.specs.Numbers.{digitsFor, decimal}
 use Rattle.lines.specs.Lines.{numberThen, lineOf, linesOf, refusalLine}
 
--- `320 video 0 32` LF `384 end 0 0` LF
-two-lines : linesOf (record { start = 320; kind = Video; «data_type» = 0; payload = 352; len = 32; next = 384 } ∷ record { start = 384; kind = End; «data_type» = 0; payload = 416; len = 0; next = 448 } ∷ [])
-    ≡ 51 ∷ 50 ∷ 48 ∷ 32 ∷ 118 ∷ 105 ∷ 100 ∷ 101 ∷ 111 ∷ 32 ∷ 48 ∷ 32 ∷ 51 ∷ 50 ∷ 10 ∷ 51 ∷ 56 ∷ 52 ∷ 32 ∷ 101 ∷ 110 ∷ 100 ∷ 32 ∷ 48 ∷ 32 ∷ 48 ∷ 10 ∷ []
+-- `320 video 0 32 0` LF `384 end 0 0 0` LF
+two-lines : linesOf (record { start = 320; kind = Video; channel = 0; «data_type» = 0; payload = 352; len = 32; next = 384 } ∷ record { start = 384; kind = End; channel = 0; «data_type» = 0; payload = 416; len = 0; next = 448 } ∷ [])
+    ≡ 51 ∷ 50 ∷ 48 ∷ 32 ∷ 118 ∷ 105 ∷ 100 ∷ 101 ∷ 111 ∷ 32 ∷ 48 ∷ 32 ∷ 51 ∷ 50 ∷ 32 ∷ 48 ∷ 10 ∷ 51 ∷ 56 ∷ 52 ∷ 32 ∷ 101 ∷ 110 ∷ 100 ∷ 32 ∷ 48 ∷ 32 ∷ 48 ∷ 32 ∷ 48 ∷ 10 ∷ []
 unfolding digitsFor decimal joined numberThen lineOf
 two-lines = refl
 

@@ -1,5 +1,5 @@
 -- How long the lines are: a line is the sum of its pieces, and a container of at most 16,384 bytes has few enough of them.
--- Chunks stand at least 8 bytes apart and a line has at most 20 bytes, so there are at most 5 bytes of text for 2 of the container. Assumes nothing.
+-- Chunks stand at least 8 bytes apart and a line has at most 24 bytes, so there are at most 3 bytes of text for one of the container. Assumes nothing.
 use mathlib.Core.Path.{_≡_, sym, ap, _∙_}
 use mathlib.Core.List.{List, [], _∷_}
 use Prim.Native.Nat.{ℕ, suc, _+_, _-_, _*_, _^_, _≤_, _<_}
@@ -14,6 +14,7 @@ use Rattle.chunk.specs.declared.Kind.{Kind}
 use Rattle.chunk.specs.declared.Kind.the-variants.{Video, Audio, Other, End}
 use Rattle.chunk.specs.declared.Chunk.{Chunk}
 use Rattle.chunk.specs.declared.ChunkStep.the-variants.{Found}
+use Rattle.chunk.specs.Openings.{Bytes}
 use Rattle.chunk.specs.Chunks.{chunkAt}
 use Rattle.chunk.proofs.FoundLaws.{found}
 use Rattle.walk.specs.Walks.{walkFrom, joined}
@@ -28,7 +29,7 @@ pub number-length : (after : List ℕ) (n : ℕ) → length (numberThen after n)
 unfolding numberThen
 number-length after n = length-append (decimal n) after
 
-pub line-length : (chunk : Chunk) → length (lineOf chunk) ≡ length (numberThen space (chunk .start)) + length (kindWord (chunk .kind)) + length (numberThen space (chunk .«data_type»)) + length (numberThen newline (chunk .len))
+pub line-length : (chunk : Chunk) → length (lineOf chunk) ≡ length (numberThen space (chunk .start)) + length (kindWord (chunk .kind)) + length (numberThen space (chunk .«data_type»)) + length (numberThen space (chunk .len)) + length (numberThen newline (chunk .channel))
 unfolding lineOf
 line-length chunk = simp length-append
 
@@ -49,17 +50,17 @@ word-short Audio = omega arith
 word-short Other = omega arith
 word-short End = omega arith
 
--- of numbers below 100,000, and a data type
-line-short : (chunk : Chunk) → chunk .start < 100000 → chunk .«data_type» < 10 → chunk .len < 100000 → length (lineOf chunk) ≤ 20
-line-short chunk s t l =
-    omega (arith, line-length chunk, number-short space 4 (chunk .start) s, word-short (chunk .kind), number-short space 0 (chunk .«data_type») t, number-short newline 4 (chunk .len) l)
+-- of numbers below 100,000, a data type and a channel
+line-short : (chunk : Chunk) → chunk .start < 100000 → chunk .«data_type» < 10 → chunk .len < 100000 → chunk .channel < 1000 → length (lineOf chunk) ≤ 24
+line-short chunk s t l n =
+    omega (arith, line-length chunk, number-short space 4 (chunk .start) s, word-short (chunk .kind), number-short space 0 (chunk .«data_type») t, number-short space 4 (chunk .len) l, number-short newline 2 (chunk .channel) n)
 
 pub refusal-short : (refusal : Refusal) → length (refusalLine refusal) ≤ 53
 refusal-short refusal = omega (arith, refusal-length refusal, number-fits space (numberOf (refusal .cause)), number-fits newline (refusal .place))
 
-module _ (container : List ℕ) (reading : Applied) (limit : length container ≤ 16384) where
+module _ (container : List ℕ) (reading : Applied) (bytes : Bytes container) (limit : length container ≤ 16384) where
   abbrev Short : ℕ → List Chunk → Type 0
-  Short c chunks = 2 * length (linesOf chunks) ≤ 5 * (length container - c)
+  Short c chunks = length (linesOf chunks) ≤ 3 * (length container - c)
 
   none-short : (c : ℕ) → Short c []
   unfolding joined
@@ -69,10 +70,10 @@ module _ (container : List ℕ) (reading : Applied) (limit : length container �
   unfolding joined
   one-more-short c chunk chunks e more =
       let w = found container reading c chunk e in
-      let line = line-short chunk (omega arith) (omega arith) (omega arith) in
+      let line = line-short chunk (omega arith) (omega arith) (omega arith) (omega (arith, bytes (c + 12))) in
       simp length-append (omega arith)
 
-  pub lines-short : (c : ℕ) → length (linesOf (walkFrom container reading c .chunks)) ≤ 40960
+  pub lines-short : (c : ℕ) → length (linesOf (walkFrom container reading c .chunks)) ≤ 49152
   lines-short c = omega (arith, every-walk container reading Short none-short one-more-short c)
 
 -- what a loop over chunks has put when it is over

@@ -9,11 +9,11 @@ use lib.Dec.{ltb}
 use borrow.Author.Tests.{ltb-false}
 use Rattle.refusal.specs.declared.Cause.the-variants.{TooLong}
 use Rattle.reading.specs.declared.AudioChoice.the-variants.{Chosen}
-use Rattle.reading.specs.declared.TableMode.the-variants.{Original}
 use Rattle.reading.specs.declared.Reading.{Reading}
 use Rattle.reading.specs.declared.Applied.{Applied}
-use Rattle.reading.specs.Choices.{appliedTo}
+use Rattle.reading.specs.Choices.{asOriginal, appliedTo}
 use Rattle.chunk.specs.declared.Chunk.{Chunk}
+use Rattle.chunk.specs.Openings.{Bytes}
 use Rattle.walk.specs.Walks.{Ending, clean, stopped, walkFrom}
 use Rattle.header.specs.declared.Header.{Header}
 use Rattle.header.specs.declared.HeaderAnswer.{HeaderAnswer}
@@ -28,13 +28,13 @@ ended : (header : Header) (applied : Applied) (chunks : List Chunk) (ending : En
 ended header applied chunks clean h = h
 ended header applied chunks (stopped refusal) h = omega (arith, refusal-short refusal)
 
-module _ (container : List ℕ) (reading : Reading) (limit : length container ≤ 16384) where
+module _ (container : List ℕ) (reading : Reading) (bytes : Bytes container) (limit : length container ≤ 16384) where
   from-header : (header : Header) → length (filmText (filmFrom container reading header)) ≤ 65536
   unfolding filmFrom
   from-header header =
       let applied = appliedTo (header .audio) reading in
       let walked = walkFrom container applied (header .start) in
-      ended header applied (walked .chunks) (walked .ending) (omega (arith, lines-short container applied limit (header .start)))
+      ended header applied (walked .chunks) (walked .ending) (omega (arith, lines-short container applied bytes limit (header .start)))
 
   after : (a : HeaderAnswer) → length (filmText (afterHeader (filmFrom container reading) a)) ≤ 65536
   after (answer.Read header) = from-header header
@@ -44,11 +44,11 @@ module _ (container : List ℕ) (reading : Reading) (limit : length container �
   unfolding filmOf
   of-film = after (headerOf container reading)
 
-by-length : (container : List ℕ) (t : Bool) → ltb 16384 (length container) ≡ t
-    → length (cond t (refusalLine (record { cause = TooLong; place = 0 })) (filmText (filmOf container (record { audio = Chosen; tables = Original })))) ≤ 65536
-by-length container true e = omega (arith, refusal-short (record { cause = TooLong; place = 0 }))
-by-length container false e = of-film container (record { audio = Chosen; tables = Original }) (ltb-false 16384 (length container) e)
+by-length : (container : List ℕ) → Bytes container → (t : Bool) → ltb 16384 (length container) ≡ t
+    → length (cond t (refusalLine (record { cause = TooLong; place = 0 })) (filmText (filmOf container (asOriginal Chosen)))) ≤ 65536
+by-length container bytes true e = omega (arith, refusal-short (record { cause = TooLong; place = 0 }))
+by-length container bytes false e = of-film container (asOriginal Chosen) bytes (ltb-false 16384 (length container) e)
 
 pub TextFits : promised.TextFits
 unfolding textOf
-TextFits container = by-length container (ltb 16384 (length container)) refl
+TextFits container bytes = by-length container bytes (ltb 16384 (length container)) refl

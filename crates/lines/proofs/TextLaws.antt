@@ -8,7 +8,7 @@ use borrow.Author.Tests.{lt-ltb, le-ltb}
 use Rattle.refusal.specs.declared.Cause.the-variants.{TooLong}
 use Rattle.refusal.specs.declared.Refusal.{Refusal}
 use Rattle.reading.specs.declared.AudioChoice.the-variants.{Chosen}
-use Rattle.reading.specs.declared.TableMode.the-variants.{Original}
+use Rattle.reading.specs.Choices.{asOriginal}
 use Rattle.reading.specs.declared.Reading.{Reading}
 use Rattle.reading.specs.declared.Applied.{Applied}
 use Rattle.walk.specs.Walks.{walkFrom}
@@ -20,7 +20,7 @@ use Rattle.lines.specs.Lines.{linesOf, refusalLine, filmText, textOf}
 
 module _ (container : List ℕ) where
   abbrev chosen : Reading
-  chosen = record { audio = Chosen; tables = Original }
+  chosen = asOriginal Chosen
 
   pub too-long : 16384 < length container → refusalLine (record { cause = TooLong; place = 0 }) ≡ textOf container
   unfolding textOf

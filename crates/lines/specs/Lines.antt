@@ -8,7 +8,7 @@ use Rattle.refusal.specs.declared.Cause.the-variants.{TooLong}
 use Rattle.refusal.specs.declared.Refusal.{Refusal}
 use Rattle.refusal.specs.Numbers.{numberOf}
 use Rattle.reading.specs.declared.AudioChoice.the-variants.{Chosen}
-use Rattle.reading.specs.declared.TableMode.the-variants.{Original}
+use Rattle.reading.specs.Choices.{asOriginal}
 use Rattle.chunk.specs.declared.Kind.{Kind}
 use Rattle.chunk.specs.declared.Kind.the-variants.{Video, Audio, Other, End}
 use Rattle.chunk.specs.declared.Chunk.{Chunk}
@@ -34,9 +34,10 @@ kindWord Audio = 0x61 ∷ 0x75 ∷ 0x64 ∷ 0x69 ∷ 0x6F ∷ space
 kindWord Other = 0x6F ∷ 0x74 ∷ 0x68 ∷ 0x65 ∷ 0x72 ∷ space
 kindWord End = 0x65 ∷ 0x6E ∷ 0x64 ∷ space
 
--- "one line per chunk", "as start, kind .., type, length"
+-- "one line per chunk", "as start, kind .., type, length", "a fifth field; byte 12 of any kind"
 unfoldable pub lineOf : Chunk → List ℕ
-lineOf chunk = numberThen space (chunk .start) ++ kindWord (chunk .kind) ++ numberThen space (chunk .«data_type») ++ numberThen newline (chunk .len)
+lineOf chunk =
+    numberThen space (chunk .start) ++ kindWord (chunk .kind) ++ numberThen space (chunk .«data_type») ++ numberThen space (chunk .len) ++ numberThen newline (chunk .channel)
 
 abbrev pub linesOf : List Chunk → List ℕ
 linesOf = joined lineOf
@@ -61,4 +62,4 @@ filmText (refused refusal) = refusalLine refusal
 unfoldable pub textOf : List ℕ → List ℕ
 textOf container =
     cond (ltb 16384 (length container)) (refusalLine (record { cause = TooLong; place = 0 }))
-    (filmText (filmOf container (record { audio = Chosen; tables = Original })))
+    (filmText (filmOf container (asOriginal Chosen)))

@@ -2,8 +2,9 @@
 use Prim.Native.Nat.{ℕ, _≤_}
 use mathlib.Core.List.{List}
 use lib.ListN.{length}
+use Rattle.chunk.specs.Openings.{Bytes}
 use Rattle.lines.specs.Lines.{textOf}
 
--- No line is lost: what is printed of any container fits an output of 65,536 bytes.
+-- No line is lost: what is printed of any container, which is made of bytes, fits an output of 65,536 bytes.
 abbrev pub TextFits : Type 0
-TextFits = (container : List ℕ) → length (textOf container) ≤ 65536
+TextFits = (container : List ℕ) → Bytes container → length (textOf container) ≤ 65536

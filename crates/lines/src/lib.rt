@@ -13,8 +13,6 @@ use chunk::Kind;
 use film::Surveyed;
 use reading::Applied;
 use reading::AudioChoice;
-use reading::Reading;
-use reading::TableMode;
 use refusal::Cause;
 use refusal::Refusal;
 
@@ -60,7 +58,8 @@ fn put_line(out: &mut [u8], place: usize, chunk: Chunk) -> usize
     let at = put_number(out, place, chunk.start as u64, b" ");
     let at = put_kind(out, at, kind);
     let at = put_number(out, at, chunk.data_type as u64, b" ");
-    put_number(out, at, chunk.len as u64, b"\n")
+    let at = put_number(out, at, chunk.len as u64, b" ");
+    put_number(out, at, chunk.channel as u64, b"\n")
 }
 
 // Puts the lines of all chunks from a place of the container on, at the start of the output. Where the chunks are refused,
@@ -108,11 +107,7 @@ pub fn lines(container: &[u8], out: &mut [u8]) -> usize
             },
         );
     }
-    let reading = Reading {
-        audio: AudioChoice::Chosen,
-        tables: TableMode::Original,
-    };
-    match film::survey(container, reading) {
+    match film::survey(container, reading::as_original(AudioChoice::Chosen)) {
         Surveyed::Film {
             header,
             reading: applied,

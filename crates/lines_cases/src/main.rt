@@ -87,16 +87,16 @@ fn lengths() {
     cut(&film);
 }
 
-// Chunks of every kind, with numbers above 3 in byte 15. The header has no audio, so `@SFA` is skipped.
+// Chunks of every kind, with numbers above 3 in byte 15 and each with a channel of its own. The header has no audio, so `@SFA` is skipped.
 fn kinds() {
     let mut film = [0u8; 640];
     store_header(&mut film);
-    store(&mut film, 320, b"@SFV\0\0\0\x38\0\x10\0\x08\0\0\0\x05");
-    store(&mut film, 384, b"@SFA\0\0\0\x38\0\x18\0\0\0\0\0\x06");
-    store(&mut film, 448, b"@SBT\0\0\0\x38\xFF\xFF\0\0\0\0\0\xFF");
-    store(&mut film, 512, b"@SFV\0\0\0\x38\xFF\xFF\0\0\0\0\0\x04");
+    store(&mut film, 320, b"@SFV\0\0\0\x38\0\x10\0\x08\x01\0\0\x05");
+    store(&mut film, 384, b"@SFA\0\0\0\x38\0\x18\0\0\x02\0\0\x06");
+    store(&mut film, 448, b"@SBT\0\0\0\x38\xFF\xFF\0\0\xFF\0\0\xFF");
+    store(&mut film, 512, b"@SFV\0\0\0\x38\xFF\xFF\0\0\x07\0\0\x04");
     store(&mut film, 544, b"#CONTENTS END");
-    store(&mut film, 576, b"@SFA\0\0\0\x38\0\x18\0\0\0\0\0\x0A");
+    store(&mut film, 576, b"@SFA\0\0\0\x38\0\x18\0\0\x64\0\0\x0A");
     store(&mut film, 608, b"#CONTENTS END");
     case(b"every kind\n", &film, 640);
 }

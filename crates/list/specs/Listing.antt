@@ -19,9 +19,9 @@ use Rattle.list.specs.declared.Listed.{Listed}
 use Rattle.list.specs.declared.Listed.the-variants.{Count, Refused}
 use Rattle.list.specs.declared.ListReply.{ListReply}
 
--- "start, kind, data type, payload length (0 if skipped)"
+-- "start, kind, data type, payload length (0 if skipped)"; byte 12, the channel: "Add it to the chunk record"
 abbrev pub recordOf : Chunk → ChunkRecord
-recordOf chunk = record { start = chunk .start; kind = kindNumber (chunk .kind); «data_type» = chunk .«data_type»; len = chunk .len }
+recordOf chunk = record { start = chunk .start; kind = kindNumber (chunk .kind); «data_type» = chunk .«data_type»; channel = chunk .channel; len = chunk .len }
 
 -- "Listing returns the chunk count"; 13, "chunk list too short", with the count, at 0
 abbrev pub listedIn : ℕ → Surveyed → Listed

@@ -14,12 +14,13 @@ use reading::ReadingBytes;
 use refusal::Cause;
 use refusal::Refusal;
 
-// A chunk as plain numbers: its start, the number of its kind, its data type, its payload's length.
+// A chunk as plain numbers: its start, the number of its kind, its data type, its channel, its payload's length.
 #[repr(C)]
 pub struct ChunkRecord {
     pub start: usize,
     pub kind: u8,
     pub data_type: u8,
+    pub channel: u8,
     pub len: usize,
 }
 
@@ -167,6 +168,7 @@ fn record_of(chunk: Chunk) -> ChunkRecord
         start: chunk.start,
         kind: chunk::kind_number(kind),
         data_type: chunk.data_type,
+        channel: chunk.channel,
         len: chunk.len,
     }
 }
@@ -180,6 +182,7 @@ fn no_record() -> RecordStep
             start: 0,
             kind: 0,
             data_type: 0,
+            channel: 0,
             len: 0,
         },
         next: 0,

@@ -1,33 +1,34 @@
--- Rules C: "`@SFA` to audio if present and chosen". request 5: "Add a table mode"; "The Rust's mode stays".
+-- Rules C: "`@SFA` to audio if present and chosen". request 2: "audio choice becomes none, all joined as the Rust does, or one channel". request 5: "Add a table mode"; "The Rust's mode stays".
 use Prim.Native.Nat.{ℕ}
 use mathlib.Core.Bool.{Bool, true, false, cond}
 use lib.Dec.{eqb}
 use Rattle.reading.specs.declared.AudioChoice.{AudioChoice}
-use Rattle.reading.specs.declared.AudioChoice.the-variants.{NotChosen, Chosen}
+use Rattle.reading.specs.declared.AudioChoice.the-variants.{NotChosen, Chosen, Channel}
 use Rattle.reading.specs.declared.TableMode.{TableMode}
 use Rattle.reading.specs.declared.TableMode.the-variants.{Original, ZeroColumns}
 use Rattle.reading.specs.declared.Reading.{Reading}
 use Rattle.reading.specs.declared.Applied.{Applied}
 use Rattle.reading.specs.declared.ReadingBytes.{ReadingBytes}
 
--- "chosen"
-abbrev pub isChosen : AudioChoice → Bool
-isChosen NotChosen = false
-isChosen Chosen = true
+-- "none, all joined as the Rust does, or one channel": whether audio of a channel is taken
+abbrev pub takesChannel : AudioChoice → ℕ → Bool
+takesChannel NotChosen channel = false
+takesChannel Chosen channel = true
+takesChannel (Channel chosen) channel = eqb channel chosen
 
 -- "Requests below read in the Rust's modes unless they say otherwise"
 abbrev pub asOriginal : AudioChoice → Reading
 asOriginal choice = record { audio = choice; tables = Original }
 
--- what C asks for, ours: 0 chooses no audio, and 1 the mode of zero columns
-abbrev pub choiceBy : ℕ → AudioChoice
-choiceBy number = cond (eqb number 0) NotChosen Chosen
+-- what C asks for, ours: 0 chooses no audio and 2 one channel, and 1 the mode of zero columns
+abbrev pub choiceBy : ℕ → ℕ → AudioChoice
+choiceBy number channel = cond (eqb number 0) NotChosen (cond (eqb number 2) (Channel channel) Chosen)
 
 abbrev pub modeBy : ℕ → TableMode
 modeBy number = cond (eqb number 1) ZeroColumns Original
 
 abbrev pub readingBy : ReadingBytes → Reading
-readingBy asked = record { audio = choiceBy (asked .audio); tables = modeBy (asked .tables) }
+readingBy asked = record { audio = choiceBy (asked .audio) (asked .channel); tables = modeBy (asked .tables) }
 
 -- "if present": where a film has no audio, none is chosen
 abbrev pub appliedTo : Bool → Reading → Applied

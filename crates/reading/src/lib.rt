@@ -1,12 +1,14 @@
 // How a container is read: what a caller asks for, and what of it applies to one film. Both go by value.
-// Rules C: audio is taken "if present and chosen". request 5: how a table's columns are read.
+// Rules C: audio is taken "if present and chosen". request 2: none, all, or one channel. request 5: how a table's columns are
+// read.
 ghost use mathlib.Core.Path.{_≡_};
-ghost use Rattle.reading.specs.Choices.{isChosen, asOriginal, choiceBy, modeBy, readingBy, appliedTo};
+ghost use Rattle.reading.specs.Choices.{takesChannel, asOriginal, choiceBy, modeBy, readingBy, appliedTo};
 
-// Whether audio payloads are asked for.
+// Which audio payloads are asked for: none, those of every channel, or those of one.
 pub enum AudioChoice {
     NotChosen,
     Chosen,
+    Channel(u8),
 }
 
 // How the columns of tables are read.
@@ -28,7 +30,8 @@ pub struct Applied {
     pub audio: AudioChoice,
 }
 
-// How to read, as C asks. Only `audio` and `tables` are looked at; the other bytes keep room for choices to come.
+// How to read, as C asks. `channel` counts where `audio` asks for one. `payloads` is not looked at; it keeps room for a
+// choice to come.
 #[repr(C)]
 pub struct ReadingBytes {
     pub audio: u8,
@@ -37,13 +40,14 @@ pub struct ReadingBytes {
     pub tables: u8,
 }
 
-// Whether audio is asked for.
-pub fn is_chosen(choice: AudioChoice) -> bool
-    ensures { λ r. ⌜ r ≡ isChosen choice ⌝ }
+// Whether audio of a channel is asked for.
+pub fn takes_channel(choice: AudioChoice, channel: u8) -> bool
+    ensures { λ r. ⌜ r ≡ takesChannel choice channel ⌝ }
 {
     match choice {
         AudioChoice::NotChosen => false,
         AudioChoice::Chosen => true,
+        AudioChoice::Channel(chosen) => channel == chosen,
     }
 }
 
@@ -57,12 +61,15 @@ pub fn as_original(audio: AudioChoice) -> Reading
     }
 }
 
-// The audio choice by a number: audio by every number but 0.
-fn choice_by(number: u8) -> AudioChoice
-    ensures { λ r. ⌜ r ≡ choiceBy number ⌝ }
+// The audio choice by a number: none by 0, one channel by 2, all by every other number.
+fn choice_by(number: u8, channel: u8) -> AudioChoice
+    ensures { λ r. ⌜ r ≡ choiceBy number channel ⌝ }
 {
     if number == 0 {
         return AudioChoice::NotChosen;
+    }
+    if number == 2 {
+        return AudioChoice::Channel(channel);
     }
     AudioChoice::Chosen
 }
@@ -82,7 +89,7 @@ pub fn reading_by(asked: ReadingBytes) -> Reading
     ensures { λ r. ⌜ r ≡ readingBy asked ⌝ }
 {
     Reading {
-        audio: choice_by(asked.audio),
+        audio: choice_by(asked.audio, asked.channel),
         tables: mode_by(asked.tables),
     }
 }

@@ -16,7 +16,7 @@ use Rattle.word.specs.Numbers.{be32}
 use Rattle.signature.specs.Signatures.{contentsEnd, sameBytes, standsAt}
 use Rattle.part.specs.Parts.{partAt}
 use Rattle.reading.specs.declared.Applied.{Applied}
-use Rattle.reading.specs.Choices.{isChosen}
+use Rattle.reading.specs.Choices.{takesChannel}
 use Rattle.chunk.specs.declared.Kind.{Kind}
 use Rattle.chunk.specs.declared.Kind.the-variants as kind
 use Rattle.chunk.specs.declared.Opening.{Opening}
@@ -104,7 +104,7 @@ module _ (by : Unmasking) (stream : Stream) (payload more : List ℕ) where
 -- a stream's payloads are taken
 abbrev pub Takes : Applied → Stream → Type 0
 Takes applied Video = Unit
-Takes applied Audio = isChosen (applied .audio) ≡ true
+Takes applied Audio = takesChannel (applied .audio) 0 ≡ true
 
 letters-fit : (stream : Stream) → lettersOf stream < 0x100000000
 letters-fit Video = omega arith

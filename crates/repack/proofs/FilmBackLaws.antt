@@ -12,7 +12,7 @@ use Rattle.block.specs.Blocks.{filename}
 use Rattle.signature.specs.Signatures.{CRID, SFV, SFA, headerEnd, metadataEnd, contentsEnd}
 use Rattle.reading.specs.declared.Reading.{Reading}
 use Rattle.reading.specs.declared.Applied.{Applied}
-use Rattle.reading.specs.Choices.{isChosen, appliedTo}
+use Rattle.reading.specs.Choices.{takesChannel, appliedTo}
 use Rattle.codec.specs.declared.Codec.{Codec}
 use Rattle.codec.specs.declared.Codec.the-variants.{Value, Absent}
 use Rattle.unmasking.specs.declared.Unmasking.{Unmasking}
@@ -106,7 +106,7 @@ reads-as : {s rest name : List ℕ} {how : Reading} {answer : HeaderAnswer} {mpe
 reads-as r e f = rw (e, f) at r
 
 module _ (name video audio : List ℕ) (packing : Packing) (n : ℕ) (accepted : Accepted name video audio packing n) (mpeg : CodecFits (packing .«mpeg_codec»)) (other : CodecFits (packing .«audio_codec»))
-    (silent : packing .audio ≡ false → audio ≡ []) (reading : Reading) (chosen : isChosen (reading .audio) ≡ true) where
+    (silent : packing .audio ≡ false → audio ≡ []) (reading : Reading) (chosen : takesChannel (reading .audio) 0 ≡ true) where
   abbrev by : Unmasking
   by = unmaskingOf (packing .key) (packing .«audio_codec»)
 
@@ -159,7 +159,7 @@ module _ (name video audio : List ℕ) (packing : Packing) (n : ℕ) (accepted :
   chunks-from = from-as (reads .from) start-is (ap (λ (blocks : List Block). bytesOf blocks ++ bytesOf (endBlocks packing)) (blocks-are by video audio))
 
   good : (t : Bool) → packing .audio ≡ t → AllGood applied (items video audio)
-  good true e = both-good applied video audio (ap (λ (b : Bool). isChosen (appliedTo b reading .audio)) e ∙ chosen) (accepted .unmarked)
+  good true e = both-good applied video audio (ap (λ (b : Bool). takesChannel (appliedTo b reading .audio) 0) e ∙ chosen) (accepted .unmarked)
   good false e =
       subst (λ (a : List ℕ). AllGood applied (items video a)) (sym (silent e))
       (video-good applied video (subst (λ (a : List ℕ). (anyMarked (payloadsOf video) || anyMarked (payloadsOf a)) ≡ false) (silent e) (accepted .unmarked)))

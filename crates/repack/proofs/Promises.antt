@@ -8,7 +8,7 @@ use lib.ListN.{length, take, drop}
 use lib.Seq.{sets-eq, take-at}
 use borrow.Author.Tests.{le-ltb}
 use Rattle.reading.specs.declared.Reading.{Reading}
-use Rattle.reading.specs.Choices.{isChosen, appliedTo}
+use Rattle.reading.specs.Choices.{takesChannel, appliedTo}
 use Rattle.unmasking.specs.declared.Key.the-variants.{Given}
 use Rattle.chunk.specs.declared.Chunk.{Chunk}
 use Rattle.header.specs.declared.Header.{Header}
@@ -34,7 +34,7 @@ use Rattle.repack.proofs.FilmBackLaws.{film-is, video-is, audio-is, nam
 -- ---- what is known of a film that was written
 
 module _ (name video audio : List ℕ) (packing : Packing) (out out′ : List ℕ) (size : ℕ) (mpeg : CodecFits (packing .«mpeg_codec»)) (other : CodecFits (packing .«audio_codec»))
-    (w : Writing name video audio packing out (Size size) out′) (reading : Reading) (chosen : isChosen (reading .audio) ≡ true) where
+    (w : Writing name video audio packing out (Size size) out′) (reading : Reading) (chosen : takesChannel (reading .audio) 0 ≡ true) where
   abbrev heardOf : List ℕ
   heardOf = audioIn packing audio
 

@@ -35,9 +35,9 @@ endLines audio = endLine ∷ cond audio (endLine ∷ []) []
 abbrev pub linesOf : List ℕ → List ℕ → Bool → List Line
 linesOf video audio present = byTurns (map (payloadLine Video) (payloadsOf video)) (map (payloadLine Audio) (payloadsOf audio)) ++ endLines present
 
--- the chunk of a line at c, of data type 0, with its payload 0x20 bytes on
+-- the chunk of a line at c, of channel and data type 0, with its payload 0x20 bytes on
 abbrev pub chunkIn : ℕ → Line → Chunk
-chunkIn c line = record { start = c; kind = line .kind; «data_type» = 0; payload = c + 0x20; len = line .len; next = c + line .size }
+chunkIn c line = record { start = c; kind = line .kind; channel = 0; «data_type» = 0; payload = c + 0x20; len = line .len; next = c + line .size }
 
 -- the chunks of lines from c on, one after the other
 unfoldable pub chunksFrom : ℕ → List Line → List Chunk

@@ -7,7 +7,7 @@ use lib.ListN.{length, take}
 use lib.Seq.{sets}
 use lib.Dec.{eqb}
 use Rattle.reading.specs.declared.Reading.{Reading}
-use Rattle.reading.specs.Choices.{isChosen, appliedTo}
+use Rattle.reading.specs.Choices.{takesChannel, appliedTo}
 use Rattle.key.specs.CountingBits.{AgreeWhereItCounts}
 use Rattle.unmasking.specs.declared.Key.the-variants.{Given}
 use Rattle.part.specs.Parts.{partAt}
@@ -52,11 +52,12 @@ GivesBack name video audio packing container seen heard r seen′ heard′ =
     × (heard′ ≡ sets heard 0 audio)
 
 -- "Extracting with the same key and audio chosen must return the same name, codecs, presence of audio and streams": whatever is written, each result that meets
--- extraction's contract on the written bytes, into outputs of the streams' lengths or longer, gives it back. With no key in both, too
+-- extraction's contract on the written bytes, into outputs of the streams' lengths or longer, gives it back. With no key in both, too. Audio
+-- is written as channel 0: it is read back with all audio and with that channel
 abbrev pub ReadingBack : Type 0
 ReadingBack =
     (name video audio : List ℕ) (packing : Packing) (out out′ : List ℕ) (size : ℕ) (reading : Reading) (seen heard seen′ heard′ : List ℕ) (r : Extracted)
-    → CodecFits (packing .«mpeg_codec») → CodecFits (packing .«audio_codec») → Writing name video audio packing out (Size size) out′ → isChosen (reading .audio) ≡ true
+    → CodecFits (packing .«mpeg_codec») → CodecFits (packing .«audio_codec») → Writing name video audio packing out (Size size) out′ → takesChannel (reading .audio) 0 ≡ true
     → length video ≤ length seen → length (audioIn packing audio) ≤ length heard
     → Extraction (take size out′) reading (packing .key) seen heard r seen′ heard′
     → GivesBack name video (audioIn packing audio) packing (take size out′) seen heard r seen′ heard′
@@ -65,7 +66,7 @@ ReadingBack =
 abbrev pub ReadingBackWhereBitsAgree : Type 0
 ReadingBackWhereBitsAgree =
     (name video audio : List ℕ) (packing : Packing) (out out′ : List ℕ) (size key key′ : ℕ) (reading : Reading) (seen heard seen′ heard′ : List ℕ) (r : Extracted)
-    → CodecFits (packing .«mpeg_codec») → CodecFits (packing .«audio_codec») → Writing name video audio packing out (Size size) out′ → isChosen (reading .audio) ≡ true
+    → CodecFits (packing .«mpeg_codec») → CodecFits (packing .«audio_codec») → Writing name video audio packing out (Size size) out′ → takesChannel (reading .audio) 0 ≡ true
     → length video ≤ length seen → length (audioIn packing audio) ≤ length heard → packing .key ≡ Given key → AgreeWhereItCounts key key′
     → Extraction (take size out′) reading (Given key′) seen heard r seen′ heard′
     → GivesBack name video (audioIn packing audio) packing (take size out′) seen heard r seen′ heard′
@@ -74,7 +75,7 @@ ReadingBackWhereBitsAgree =
 abbrev pub ListingBack : Type 0
 ListingBack =
     (name video audio : List ℕ) (packing : Packing) (out out′ : List ℕ) (size : ℕ) (reading : Reading)
-    → CodecFits (packing .«mpeg_codec») → CodecFits (packing .«audio_codec») → Writing name video audio packing out (Size size) out′ → isChosen (reading .audio) ≡ true
+    → CodecFits (packing .«mpeg_codec») → CodecFits (packing .«audio_codec») → Writing name video audio packing out (Size size) out′ → takesChannel (reading .audio) 0 ≡ true
     → filmOf (take size out′) reading
     ≡ film (headerBack name packing (length (bytesOf (headerBlocks name packing)))) (appliedTo (packing .audio) reading)
     (chunksFrom (length (bytesOf (headerBlocks name packing))) (linesOf video (audioIn packing audio) (packing .audio)))

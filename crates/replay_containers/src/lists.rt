@@ -30,6 +30,7 @@ pub(crate) fn list_of(container: &[u8], reading: ReadingBytes) -> Filled {
         start: 0,
         kind: 0,
         data_type: 0,
+        channel: 0,
         len: 0,
     };
     fill(container, reading, blank)

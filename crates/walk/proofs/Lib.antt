@@ -1,5 +1,6 @@
 pub mod WalkLaws
 pub mod LoopLaws
+pub mod ChannelLaws
 pub mod SumLaws
 pub mod PutLaws
 pub mod OneAnswer

@@ -32,7 +32,7 @@ pub struct Chunk<'a> {
 }
 
 /// Kinds of chunks. Skipped are the ends of streams, chunks of other letters than `@SFV` and `@SFA`, and audio that is
-/// not taken or that the header does not have: its kind is audio still.
+/// not taken, is of another channel or is not in the header: its kind is audio still.
 #[derive(Clone, Copy, PartialEq, Eq, PartialOrd, Ord, Hash, Debug)]
 pub enum ChunkKind {
     Video,
@@ -145,7 +145,7 @@ fn chunk<'a>(film: &'a [u8], record: &ffi::Chunk) -> Chunk<'a> {
         },
         data_type: record.data_type,
         letters: [bytes[0], bytes[1], bytes[2], bytes[3]],
-        channel: bytes[12],
+        channel: record.channel,
         payload: &bytes[INSIDE..][..record.length],
     }
 }

@@ -70,6 +70,7 @@ pub struct Chunk {
     pub start: usize,
     pub kind: u8,
     pub data_type: u8,
+    pub channel: u8,
     pub length: usize,
 }
 

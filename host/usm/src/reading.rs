@@ -22,8 +22,11 @@ pub struct Reading {
 #[derive(Clone, Copy, PartialEq, Eq, Hash, Debug, Default)]
 #[non_exhaustive]
 pub enum Audio {
+    /// Of every channel, joined as the original joins them.
     #[default]
     All,
+    /// Of one channel. That of the others is skipped.
+    Channel(u8),
     None,
 }
 
@@ -34,6 +37,11 @@ impl Reading {
     }
 
     pub(crate) fn for_c(self) -> ffi::Reading {
-        ffi::Reading { audio: (self.audio != Audio::None).into(), channel: 0, payloads: 0, tables: 0 }
+        let (audio, channel) = match self.audio {
+            Audio::None => (0, 0),
+            Audio::All => (1, 0),
+            Audio::Channel(channel) => (2, channel),
+        };
+        ffi::Reading { audio, channel, payloads: 0, tables: 0 }
     }
 }

@@ -15,6 +15,9 @@ same-length c = search needs
 returns : tie.Need-returns
 returns c = put-first (c .before .before .put-refusal .ensures) (too-long _ (c .before .before .before .before .if1 .taken))
 
+as-original-requires : tie.Need-as-original-requires
+as-original-requires c κs = search needs
+
 survey-requires : tie.Need-survey-requires
 survey-requires c κs = search needs
 
@@ -38,7 +41,9 @@ returns-2 c =
     let put = c .before .before in
     let film = put .before .before .before in
     let surveyed = film .before .before in
-    put-first (put .put-chunks .ensures) (accepted _ (surveyed .before .if1 .left) _ _ _ _ _ (sym (surveyed .survey .ensures) ∙ film .header .given .1))
+    let asked = surveyed .before in
+    put-first (put .put-chunks .ensures)
+    (accepted _ (asked .before .if1 .left) _ _ _ _ _ (sym (rw (asked .as-original .ensures) at (surveyed .survey .ensures)) ∙ film .header .given .1))
 
 same-length-3 : tie.Need-same-length-3
 same-length-3 c = search needs
@@ -48,7 +53,9 @@ returns-3 c =
     let put = c .before .before in
     let refused = put .before .before .before in
     let surveyed = refused .before .before in
-    put-first (put .put-refusal2 .ensures) (not-accepted _ (surveyed .before .if1 .left) _ (sym (surveyed .survey .ensures) ∙ refused .refusal .given .1))
+    let asked = surveyed .before in
+    put-first (put .put-refusal2 .ensures)
+    (not-accepted _ (asked .before .if1 .left) _ (sym (rw (asked .as-original .ensures) at (surveyed .survey .ensures)) ∙ refused .refusal .given .1))
 
 pub lines-spec : {M : Type 1} → statement M
 lines-spec =
@@ -57,6 +64,7 @@ lines-spec =
     put-refusal-requires
     same-length
     returns
+    as-original-requires
     survey-requires
     enum-known-header
     put-chunks-requires

@@ -1,7 +1,7 @@
 -- `lines::put_chunks` meets its contract: with the lines of the chunks from here on put after it, what stands there is the text of all chunks.
 -- Each chunk leaves fewer bytes, and the lines of a container of at most 16,384 bytes are short enough that no place wraps. Assumes nothing.
 use mathlib.Core.Path.{sym, _∙_}
-use Prim.Native.Nat.{_-_}
+use Prim.Native.Nat.{ℕ, _-_}
 use native.Mathlib.Omega.{arith}
 use lib.ListN.{length}
 use Rattle.walk.proofs.WalkLaws.{falls}
@@ -43,9 +43,10 @@ put-line-requires c κs =
     let found = c .before .before in
     let step = found .before .before in
     let loop = step .before in
-    let start = loop .before .before .before in
+    let known = loop .before in
+    let start = known .before .before in
     let fits = put-fits _ _ _ _ _ _ _ _ (loop .loop .inv) _ (sym (step .chunk-at .ensures) ∙ found .chunk .given .1) in
-    omega (arith, fits, lines-short (start .args .container .now) (start .args .reading) (start .pre) (start .args .place))
+    omega (arith, fits, lines-short (start .args .container .now) (start .args .reading) (λ (i : ℕ). omega (arith, known .shared-slice-known .given i)) (start .pre) (start .args .place))
 
 loop-less : tie.Need-loop-less Inv-loop μ-loop
 loop-less c =

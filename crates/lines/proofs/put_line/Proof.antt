@@ -1,4 +1,4 @@
--- `lines::put_line` meets its contract: its four words are put one after the other, and each fits where the line does. Assumes nothing.
+-- `lines::put_line` meets its contract: its five words are put one after the other, and each fits where the line does. Assumes nothing.
 use native.Mathlib.Omega.{arith}
 use Rattle.lines.specs.Lines.{lineOf}
 use Rattle.laws.proofs.PutLaws.{put-then}
@@ -40,17 +40,33 @@ put-number-requires-3 c κs =
     let start = kind .before .before .before .before in
     omega (arith, line-length (start .before .before .before .before .args .chunk))
 
+cast-put-number-2 : tie.Need-cast-put-number-2
+cast-put-number-2 c = search needs
+
+slice-aggregate-put-number-4 : tie.Need-slice-aggregate-put-number-4
+slice-aggregate-put-number-4 c = search needs
+
+put-number-requires-4 : tie.Need-put-number-requires-4
+put-number-requires-4 c κs =
+    let len = c .before .before .before .before .before in
+    let data-type = len .before .before .before .before .before in
+    let kind = data-type .before .before .before .before .before .before in
+    let start = kind .before .before .before .before in
+    omega (arith, line-length (start .before .before .before .before .args .chunk))
+
 same-length : tie.Need-same-length
 same-length c = search needs
 
 returns : tie.Need-returns
 unfolding lineOf
 returns c =
-    let len = c .before .before in
+    let channel = c .before .before in
+    let len = channel .before .before .before .before .before .before in
     let data-type = len .before .before .before .before .before in
     let kind = data-type .before .before .before .before .before .before in
     let start = kind .before .before .before .before in
-    put-then (put-then (put-then (start .put-number .ensures) (kind .put-kind .ensures)) (data-type .put-number2 .ensures)) (len .put-number3 .ensures)
+    put-then (put-then (put-then (put-then (start .put-number .ensures) (kind .put-kind .ensures)) (data-type .put-number2 .ensures)) (len .put-number3 .ensures))
+    (channel .put-number4 .ensures)
 
 pub put-line-spec : {M : Type 1} → statement M
 put-line-spec =
@@ -64,5 +80,8 @@ put-line-spec =
     put-number-requires-2
     slice-aggregate-put-number-3
     put-number-requires-3
+    cast-put-number-2
+    slice-aggregate-put-number-4
+    put-number-requires-4
     same-length
     returns)

@@ -5,6 +5,7 @@ use Prim.Native.Nat.{ℕ, _≤_}
 use native.Mathlib.Omega.{arith}
 use lib.ListN.{length, length-take}
 use lib.Seq.{sets, length-sets}
+use Rattle.chunk.specs.Openings.{Bytes}
 use Rattle.lines.specs.Lines.{textOf}
 use Rattle.lines.proofs.Promises.{TextFits}
 use borrow.Author.Needs.{needs}
@@ -12,8 +13,8 @@ use Rattle.show.proofs.print.Statement.{statement}
 use Rattle.show.proofs.print.Tie as tie
 
 -- a text that is put into 65,536 bytes is there whole
-whole : (container out after : List ℕ) (n : ℕ) → 65536 ≡ length out → (n ≡ length (textOf container)) × (after ≡ sets out 0 (textOf container)) → n ≤ length after
-whole container out after n e h = omega (arith, TextFits container, ap length (h .1) ∙ length-sets out 0 (textOf container))
+whole : (container out after : List ℕ) (n : ℕ) → Bytes container → 65536 ≡ length out → (n ≡ length (textOf container)) × (after ≡ sets out 0 (textOf container)) → n ≤ length after
+whole container out after n bytes e h = omega (arith, TextFits container bytes, ap length (h .1) ∙ length-sets out 0 (textOf container))
 
 large-buffer-requires : tie.Need-large-buffer-requires
 large-buffer-requires c κs = search needs
@@ -25,11 +26,14 @@ lines-requires : tie.Need-lines-requires
 lines-requires c κs = search needs
 
 array-share-prefix-text : tie.Need-array-share-prefix-text
-array-share-prefix-text c = whole _ _ _ _ (c .before .before .before .large-buffer .ensures) (c .before .lines .ensures)
+array-share-prefix-text c =
+    let made = c .before .before .before in
+    whole _ _ _ _ (λ (i : ℕ). omega (arith, made .before .shared-slice-known .given i)) (made .large-buffer .ensures) (c .before .lines .ensures)
 
 slice-aggregate-write-all : tie.Need-slice-aggregate-write-all
 slice-aggregate-write-all c =
-    let h = whole _ _ _ _ (c .before .before .before .before .large-buffer .ensures) (c .before .before .lines .ensures) in
+    let made = c .before .before .before .before in
+    let h = whole _ _ _ _ (λ (i : ℕ). omega (arith, made .before .shared-slice-known .given i)) (made .large-buffer .ensures) (c .before .before .lines .ensures) in
     simp length-take (omega arith)
 
 write-all-requires : tie.Need-write-all-requires

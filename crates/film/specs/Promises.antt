@@ -1,0 +1,25 @@
+-- What a film promises of one channel of its audio. Each is proved under the same name in proofs/Promises.antt.
+use Prim.Native.Nat.{ℕ}
+use mathlib.Core.Path.{_≡_}
+use mathlib.Core.List.{List, map}
+use Rattle.reading.specs.declared.AudioChoice.{AudioChoice}
+use Rattle.reading.specs.declared.AudioChoice.the-variants.{Chosen, Channel}
+use Rattle.reading.specs.declared.Reading.{Reading}
+use Rattle.reading.specs.declared.Applied.{Applied}
+use Rattle.reading.specs.Choices.{appliedTo}
+use Rattle.chunk.specs.declared.Chunk.{Chunk}
+use Rattle.chunk.specs.Channels.{only}
+use Rattle.header.specs.declared.Header.{Header}
+use Rattle.film.specs.Films.{film, filmOf}
+
+-- a reading, but for its audio choice
+abbrev pub withAudio : AudioChoice → Reading → Reading
+withAudio choice reading = record { audio = choice; tables = reading .tables }
+
+-- Request 2, "audio choice becomes none, all joined .., or one channel": a film that is accepted with all audio is accepted with each channel of it, with the
+-- same header and the same chunks, of which those of another channel are "skipped like audio not chosen"
+abbrev pub OneChannelOfAFilm : Type 0
+OneChannelOfAFilm =
+    (container : List ℕ) (reading : Reading) (channel : ℕ) (header : Header) (applied : Applied) (chunks : List Chunk)
+    → filmOf container (withAudio Chosen reading) ≡ film header applied chunks
+    → filmOf container (withAudio (Channel channel) reading) ≡ film header (appliedTo (header .audio) (withAudio (Channel channel) reading)) (map (only channel) chunks)
