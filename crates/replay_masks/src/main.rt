@@ -1,9 +1,6 @@
 // Replays recorded answers of the original Rust: reads keys from standard input and writes what the
 // library's five exported functions answer for each. README.md beside this crate has the format.
 ghost use Prim.Native.Nat.{_≤_};
-
-mod payload;
-
 use digits::Typed;
 use libc::STDIN_FILENO;
 use libc::STDOUT_FILENO;
@@ -60,9 +57,9 @@ fn answer(act: Act, key: u64, len: usize) -> u64
 {
     let mut space = io::buffer();
     let payload = &mut space[..len];
-    payload::fill(payload);
+    sample::fill(payload);
     apply(act, key, payload);
-    payload::digest(payload)
+    sample::digest(payload)
 }
 
 // A line that begins with a key.

@@ -1,4 +1,4 @@
--- The rules of the recorded answers: the payload that each is given for, and the digest that stands for its bytes. Assumes nothing.
+-- The rules of the recorded answers: the bytes that each is given for, and the digest that stands for its own.
 use Prim.Native.Nat.{ℕ, zero, suc, _+_, _*_, _/_, _%_}
 use mathlib.Core.List.{List, [], _∷_}
 
@@ -11,9 +11,9 @@ unfoldable pub number : ℕ → ℕ
 number zero = 1
 number (suc n) = numberAfter (number n)
 
--- the payload's byte at i, whatever its length
-abbrev pub payloadByte : ℕ → ℕ
-payloadByte i = number (suc i) / 65536 % 256
+-- the byte at i, however many there are
+abbrev pub sampleByte : ℕ → ℕ
+sampleByte i = number (suc i) / 65536 % 256
 
 -- the digest h, with one byte more
 abbrev pub digestAfter : ℕ → ℕ → ℕ

@@ -1,4 +1,4 @@
--- `replay_masks::payload::digest` meets its contract: the digest so far, with the bytes left, is the digest of all. Assumes nothing.
+-- `sample::digest` meets its contract: the digest so far, with the bytes left, is the digest of all. Assumes nothing.
 use Prim.Native.Nat.{ℕ, _+_, _-_, _≤_, _<_}
 use mathlib.Core.Path.{_≡_, sym, ap, _∙_}
 use native.Mathlib.Omega.{arith}
@@ -7,9 +7,9 @@ use mathlib.Core.List.{List}
 use native.Mathlib.Numerals.{add-one}
 use lib.Seq.{drop-cons}
 use lib.ListN.{length, getD, drop, drop-of-length-le}
-use Rattle.replay_masks.specs.Recorded.{digestAfter, digestFrom, digestOf}
-use Rattle.replay_masks.proofs.payload.digest.Statement.{statement}
-use Rattle.replay_masks.proofs.payload.digest.Tie as tie
+use Rattle.sample.specs.Recorded.{digestAfter, digestFrom, digestOf}
+use Rattle.sample.proofs.digest.Statement.{statement}
+use Rattle.sample.proofs.digest.Tie as tie
 
 -- a byte goes from the bytes left into the digest
 digest-next : (s : List ℕ) (h g i d : ℕ) → i < length s → g ≡ digestAfter h (getD s i 0) → digestFrom h (drop i s) ≡ d → digestFrom g (drop (i + 1) s) ≡ d
@@ -24,10 +24,10 @@ unfolding digestFrom
 digest-end s h i l q = sym (ap (digestFrom h) (drop-of-length-le s l)) ∙ q
 
 abbrev Inv-loop : tie.InvT-loop
-Inv-loop payload h₀ i₀ h i = (i ≤ length payload) × (h < 4294967291) × (digestFrom h (drop i payload) ≡ digestOf payload)
+Inv-loop bytes h₀ i₀ h i = (i ≤ length bytes) × (h < 4294967291) × (digestFrom h (drop i bytes) ≡ digestOf bytes)
 
 abbrev μ-loop : tie.MeasureT-loop
-μ-loop payload h₀ i₀ h i = length payload - i
+μ-loop bytes h₀ i₀ h i = length bytes - i
 
 loop-holds : tie.Need-loop-holds Inv-loop μ-loop
 loop-holds c = search needs
