@@ -106,6 +106,10 @@ pub decimal-fits : (n : ℕ) → length (decimal n) ≤ 20
 unfolding decimal
 decimal-fits n = allowed 10 (omega arith) 20 1 n
 
+pub hex-fits : (width n : ℕ) → length (hex width n) ≤ 16
+unfolding hex
+hex-fits width n = allowed 16 (omega arith) 16 (min width 16) n
+
 pub decimal-short : (k n : ℕ) → n < 10 ^ suc k → length (decimal n) ≤ suc k
 unfolding decimal
 decimal-short k n h = short 10 (omega arith) 20 k 1 n h (omega arith)
