@@ -1,0 +1,5 @@
+pub mod QuoteLaws
+pub mod LengthLaws
+pub mod ReadLaws
+pub mod Promises
+pub mod OneAnswer
