@@ -1,0 +1,7 @@
+pub mod FieldLaws
+pub mod CellOnLaws
+pub mod CellPutLaws
+pub mod LineLaws
+pub mod WriteLaws
+pub mod Promises
+pub mod OneAnswer

@@ -1,0 +1,79 @@
+-- The promises of specs/Promises.antt, each under its name: what was written stands at the front of the output, and the RFC's reader gives back its records. Assumes nothing.
+use mathlib.Core.Path.{_≡_, refl, sym, ap, _∙_}
+use mathlib.Core.List.{List, [], _∷_}
+use mathlib.Core.Bool.{Bool, true, false, cond}
+use Prim.Native.Nat.{ℕ, zero, suc, _+_, _≤_}
+use native.Mathlib.Omega.{arith}
+use lib.ListN.{length, take, drop}
+use lib.Seq.{sets-eq, take-at}
+use lib.Dec.{eqb, ltb}
+use borrow.Author.Tests.{eqb-false, ltb-false}
+use Rattle.refusal.specs.declared.Cause.the-variants.{ShortRoom}
+use Rattle.written.specs.declared.Written.{Written}
+use Rattle.written.specs.declared.Written.the-variants.{Size, Refused}
+use Rattle.written.specs.Written.{writtenIn}
+use Rattle.reading.specs.declared.TableMode.{TableMode}
+use Rattle.layout.specs.declared.Layout.{Layout}
+use Rattle.layout.specs.Layouts.{bodyOf}
+use Rattle.table.specs.declared.TableAnswer.{TableAnswer}
+use Rattle.table.specs.declared.TableAnswer.the-variants.{Table, NoTable}
+use Rattle.table.specs.Tables.{tableAt}
+use Rattle.csv_text.specs.Written.{csvOf}
+use Rattle.csv_text.specs.Reading.{recordsIn}
+use Rattle.csv_text.specs.Promises.{SomeInEach}
+use Rattle.csv_text.proofs.Promises.{FieldsReadBack}
+use Rattle.csv.specs.declared.Line.{Line}
+use Rattle.csv.specs.declared.Line.the-variants.{Names, Cells}
+use Rattle.csv.specs.Texts.{lineFrom, rowEnd, rowTexts, nameTexts, textsOf}
+use Rattle.csv.specs.Writing.{textsIn, textsAt, toWrite}
+use Rattle.csv.specs.Promises as promised
+
+-- ---- every record of a table with columns has a field
+
+module _ (b : List ℕ) (l : Layout) where
+  line-some : (line : Line) (n p q : ℕ) (records : List (List (List ℕ))) → (n ≡ 0 → ⊥) → SomeInEach records → SomeInEach (lineFrom b l line n p q ∷ records)
+  unfolding lineFrom SomeInEach
+  line-some line zero p q records some more = absurd (some refl)
+  line-some line (suc n) p q records some more = more
+
+  rows-some : (l .columns ≡ 0 → ⊥) → (n q : ℕ) → SomeInEach (rowTexts b l n q)
+  unfolding rowTexts SomeInEach
+  rows-some some zero q = tt
+  rows-some some (suc n) q = line-some Cells (l .columns) 0 q (rowTexts b l n (rowEnd b l (l .columns) 0 q)) some (rows-some some n (rowEnd b l (l .columns) 0 q))
+
+  texts-some : SomeInEach (textsOf b l)
+  unfolding textsOf SomeInEach
+  texts-some = go (eqb (l .columns) 0) refl
+    where
+      go : (t : Bool) → eqb (l .columns) 0 ≡ t → SomeInEach (cond t [] (nameTexts b l ∷ rowTexts b l (l .rows) (l .start)))
+      go true e = tt
+      go false e =
+          let some : l .columns ≡ 0 → ⊥ = eqb-false (l .columns) 0 e in
+          line-some Names (l .columns) 0 0 (rowTexts b l (l .rows) (l .start)) some (rows-some some (l .rows) (l .start))
+
+in-some : (t : List ℕ) (x : TableAnswer) → SomeInEach (textsIn t x)
+unfolding SomeInEach
+in-some t (Table l) = texts-some (bodyOf t l) l
+in-some t (NoTable refusal) = tt
+
+at-some : (bytes : List ℕ) (place : ℕ) (m : TableMode) → SomeInEach (textsAt bytes place m)
+unfolding textsAt
+at-some bytes place m = in-some (drop place bytes) (tableAt bytes place m)
+
+-- ---- a size that is answered is that of the CSV, which has room
+
+has-room : (room n size : ℕ) (x : TableAnswer) → Size size ≡ writtenIn room (toWrite n x) → (n ≡ size) × (n ≤ room)
+has-room room n size (Table l) e = go (ltb room n) refl e
+  where
+    go : (t : Bool) → ltb room n ≡ t → Size size ≡ cond t (Refused (record { cause = ShortRoom n; place = 0 })) (Size n) → (n ≡ size) × (n ≤ room)
+    go true h e = let z : _≡_ {A = ℕ} 0 1 = cc in absurd (omega arith)
+    go false h e = (cc, ltb-false room n h)
+has-room room n size (NoTable refusal) e = let z : _≡_ {A = ℕ} 0 1 = cc in absurd (omega arith)
+
+pub ReadingBack : promised.ReadingBack
+ReadingBack bytes place m out out′ size w =
+    let csv = csvOf (textsAt bytes place m) in
+    let fits = has-room (length out) (length csv) size (tableAt bytes place m) (w .0) in
+    let room : 0 + length csv ≤ length out = omega (arith, fits .1) in
+    let front : take size out′ ≡ csv = ap (take size) (w .1 ∙ sets-eq csv out 0 room) ∙ take-at csv (drop (0 + length csv) out) size (fits .0) in
+    ap recordsIn front ∙ FieldsReadBack (textsAt bytes place m) (at-some bytes place m)
