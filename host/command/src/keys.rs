@@ -128,8 +128,8 @@ The two keys differ in at least one digit that counts.
 They give different pictures for a film exactly if it has a video payload of
 data type 0 and 0x240 bytes or more.
 They give different ADX sound for a film surely if it has an audio payload of
-data type 0 and 0x160 bytes or more, perhaps if the longest of data type 0 has
-0x141 to 0x15F bytes, and never if none of data type 0 has more than 0x140.
+data type 0 and 0x159 bytes or more, perhaps if the longest of data type 0 has
+0x141 to 0x158 bytes, and never if none of data type 0 has more than 0x140.
 A film whose payloads are all short (video below 0x240 bytes, sound below
 0x141) or plain (of a data type other than 0) is the same under all keys, and
 so is all sound of a codec other than ADX.
