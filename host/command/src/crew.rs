@@ -187,6 +187,11 @@ impl<'a> Told<'a, '_> {
         self.crew.progress.say(&format!("{}: {note}", Shown::path(label)));
     }
 
+    /// The status is at least this one.
+    fn raise(&mut self, status: Status) {
+        self.telling.status = self.telling.status.max(status);
+    }
+
     /// Does the rest of a film.
     fn finish(&mut self, label: &Path, rest: Rest<'a>) {
         if self.telling.is_closed {
@@ -200,7 +205,7 @@ impl<'a> Told<'a, '_> {
 
     /// Tells why a film is not done.
     fn not_done(&mut self, label: &Path, trouble: Trouble) {
-        self.telling.status = self.telling.status.max(trouble.status());
+        self.raise(trouble.status());
         let trouble = match self.say(label, trouble) {
             Ok(()) => return,
             Err(trouble) => trouble,
@@ -209,7 +214,7 @@ impl<'a> Told<'a, '_> {
             && !self.telling.is_closed
         {
             self.telling.is_closed = true;
-            self.telling.status = self.telling.status.max(output::failed(error));
+            self.raise(output::failed(error));
         }
     }
 

@@ -1,21 +1,18 @@
 //! `usm extract`: both streams of films as files.
 
-use std::collections::{HashMap, HashSet};
-use std::fs;
-use std::io;
 use std::path::{Path, PathBuf};
-use std::sync::{Mutex, PoisonError};
 
 use clap::Args;
 use serde::Serialize;
 use usm::{Audio, Outline, Reading};
 
 use crate::crew::{self, Film, Task, Turn};
-use crate::films::{Films, make_room, sources};
+use crate::films::{Films, make_room};
 use crate::key;
 use crate::names::{Shown, safe};
-use crate::output::{About, AsHex, AsText, Output, as_string, say, tell};
-use crate::pair::{EXISTS, Pair};
+use crate::output::{About, AsHex, AsText, Output, as_string, not_begun, tell};
+use crate::pair::Pair;
+use crate::placing::{Files, Placing, stem};
 use crate::trouble::{Status, Trouble};
 
 /// Extract the streams of films
@@ -34,46 +31,25 @@ pub struct Extract {
     /// The key, 1 to 16 hex digits
     #[arg(long, short, value_name = "KEY")]
     key: Option<String>,
-    /// Put the files in this folder, which is made if it is not there
-    #[arg(long, short, value_name = "DIR")]
-    output: Option<PathBuf>,
     /// Leave audio out: it is not even checked
     #[arg(long)]
     no_audio: bool,
-    /// Replace files that are there
-    #[arg(long)]
-    force: bool,
-    /// Tell of errors alone
-    #[arg(long, short)]
-    quiet: bool,
+    #[command(flatten)]
+    placing: Placing,
 }
 
 impl Extract {
     pub fn run(self) -> Status {
-        let key = match self.key.as_deref().map(key::typed).transpose() {
+        let key = match key::given(self.key.as_deref()) {
             Ok(key) => key,
-            Err(why) => {
-                let word = self.key.as_deref().unwrap_or_default();
-                return say(Status::Trouble, &format!("--key {} is {why}", Shown::bytes(word.as_bytes())));
-            }
+            Err(status) => return status,
         };
-        if let Some(note) = key.as_ref().and_then(|key| key.note.as_ref()) {
-            say(Status::Well, &format!("note: {note}"));
-        }
-        if let Some(folder) = &self.output
-            && let Err(error) = fs::create_dir_all(folder)
-        {
-            return say(Status::Trouble, &format!("{}: {error}", Shown::path(folder)));
-        }
+        let files = match Files::new(&self.placing, &self.films) {
+            Ok(files) => files,
+            Err(trouble) => return not_begun(trouble),
+        };
         let audio = if self.no_audio { Audio::None } else { Audio::All };
-        let films = sources(&self.films.files);
-        let extraction = Extraction {
-            films: films.iter().filter_map(|film| film.label().canonicalize().ok()).collect(),
-            key: key.map(|key| key.number),
-            reading: Reading::default().with_audio(audio),
-            written: Mutex::default(),
-            told: self,
-        };
+        let extraction = Extraction { key, reading: Reading::default().with_audio(audio), files, told: self };
         crew::run(&extraction, &extraction.told.films)
     }
 }
@@ -82,10 +58,7 @@ struct Extraction {
     told: Extract,
     key: Option<u64>,
     reading: Reading,
-    /// The films of this run.
-    films: HashSet<PathBuf>,
-    /// The files of this run, each with the film that it is of.
-    written: Mutex<HashMap<PathBuf, PathBuf>>,
+    files: Files,
 }
 
 impl Task for Extraction {
@@ -106,12 +79,12 @@ impl Task for Extraction {
         if self.told.films.json {
             // The name, which may be as long as the film, stays where it is.
             let mut told = turn.take();
-            self.place(label, &pair, &targets)?;
+            self.files.place(label, &pair, &targets)?;
             return told.object(&Extracted::of(label, outline.name, &targets, sizes));
         }
         turn.hand_over(move |output| {
-            self.place(label, &pair, &targets)?;
-            if self.told.quiet { Ok(()) } else { tell_files(label, &targets, sizes, output) }
+            self.files.place(label, &pair, &targets)?;
+            if self.told.placing.quiet { Ok(()) } else { tell_files(label, &targets, sizes, output) }
         });
         Ok(())
     }
@@ -120,46 +93,16 @@ impl Task for Extraction {
 impl Extraction {
     /// The files of a film: that of the video, and that of audio which is taken. None may be there, unless by force.
     fn targets(&self, label: &Path, outline: &Outline) -> Result<Vec<PathBuf>, Trouble> {
-        let own = label.file_name().filter(|name| *name != "-").and_then(|name| safe(name.as_encoded_bytes()));
-        let name = outline.name.and_then(safe).or(own).unwrap_or_else(|| "film".to_string());
-        let beside = label.parent().filter(|folder| !folder.as_os_str().is_empty()).unwrap_or(Path::new("."));
-        let folder = self.told.output.as_deref().unwrap_or(beside);
-        let mut targets = vec![folder.join(format!("{name}.{}", outline.video.kind))];
+        let name = outline.name.and_then(safe).unwrap_or_else(|| stem(label));
+        let mut targets = vec![self.files.target(label, &format!("{name}.{}", outline.video.kind))];
         if let Some(track) = &outline.audio
             && !self.told.no_audio
         {
-            targets.push(folder.join(format!("{name}.{}", track.kind)));
+            targets.push(self.files.target(label, &format!("{name}.{}", track.kind)));
         }
-        match targets.iter().find(|target| target.symlink_metadata().is_ok()) {
-            Some(target) if !self.told.force => Err(Trouble::with(target, EXISTS)),
-            _ => Ok(targets),
-        }
+        self.files.check(&targets)?;
+        Ok(targets)
     }
-
-    /// Gives a film's files their names. Neither a film of this run nor a file that it wrote is replaced, even by force.
-    fn place(&self, label: &Path, pair: &Pair, targets: &[PathBuf]) -> Result<(), Trouble> {
-        let mut written = self.written.lock().unwrap_or_else(PoisonError::into_inner);
-        let places = targets.iter().map(|target| whole(target)).collect::<io::Result<Vec<_>>>();
-        let places = places.map_err(|error| Trouble::with(&targets[0], error))?;
-        for (place, target) in places.iter().zip(targets) {
-            if let Some(other) = written.get(place) {
-                let what = format!("this run wrote it for {}", Shown::path(other));
-                return Err(Trouble::with(target, what));
-            }
-            if self.films.contains(place) {
-                return Err(Trouble::with(target, "it is a film of this run"));
-            }
-        }
-        pair.place(self.told.force)?;
-        written.extend(places.into_iter().map(|place| (place, label.to_path_buf())));
-        Ok(())
-    }
-}
-
-/// A file by the one name of its folder.
-fn whole(target: &Path) -> io::Result<PathBuf> {
-    let folder = target.parent().unwrap_or(Path::new(".")).canonicalize()?;
-    Ok(folder.join(target.file_name().unwrap_or_default()))
 }
 
 fn tell_files(label: &Path, targets: &[PathBuf], sizes: [usize; 2], output: &mut Output) -> Result<(), Trouble> {

@@ -1,10 +1,25 @@
 //! A key as it is typed.
 
+use crate::names::Shown;
+use crate::output::say;
+use crate::trouble::Status;
+
 /// A key, and what its word may have been meant for.
 #[derive(Clone, Debug, PartialEq, Eq)]
 pub struct Key {
     pub number: u64,
     pub note: Option<String>,
+}
+
+/// The key that `--key` gives, if it gives one. What is wrong with it, or may be, is told.
+pub fn given(word: Option<&str>) -> Result<Option<u64>, Status> {
+    let Some(word) = word else { return Ok(None) };
+    let key = typed(word)
+        .map_err(|why| say(Status::Trouble, &format!("--key {} is {why}", Shown::bytes(word.as_bytes()))))?;
+    if let Some(note) = &key.note {
+        say(Status::Well, &format!("note: {note}"));
+    }
+    Ok(Some(key.number))
 }
 
 const RULE: &str = "a key is 1 to 16 hex digits, with or without 0x";

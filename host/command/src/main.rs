@@ -1,7 +1,7 @@
 //! The command `usm`: what is in USM films, and their streams as files.
 //!
 //! Each subcommand is a file of its own. What they share: which films (`films`), several at once and each told in its
-//! turn (`crew`), and what is written where (`output`, `names`, `pair`).
+//! turn (`crew`), and what is written where (`output`, `names`, `pair`, `placing`).
 #![forbid(unsafe_code)]
 
 mod completions;
@@ -15,6 +15,7 @@ mod list;
 mod names;
 mod output;
 mod pair;
+mod placing;
 mod progress;
 mod table;
 mod trouble;

@@ -83,9 +83,16 @@ pub fn write_all(write: impl FnOnce(&mut Output) -> Result<(), Trouble>) -> Stat
     });
     match written {
         Ok(()) => Status::Well,
-        Err(Trouble::Output(error)) => failed(error),
-        Err(Trouble::System(what)) => say(Status::Trouble, &what),
-        Err(Trouble::Refused(refusal)) => say(Status::Refused, &refusal.to_string()),
+        Err(trouble) => not_begun(trouble),
+    }
+}
+
+/// Tells why a command is not done that is about no film, or that has begun with none.
+pub fn not_begun(trouble: Trouble) -> Status {
+    match trouble {
+        Trouble::Output(error) => failed(error),
+        Trouble::System(what) => say(Status::Trouble, &what),
+        Trouble::Refused(refusal) => say(Status::Refused, &refusal.to_string()),
     }
 }
 

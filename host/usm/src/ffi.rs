@@ -214,12 +214,17 @@ fn extract_to(
 /// Lists a film's chunks in the room of a vector, which becomes as long as their count. Where the reply refuses, as it
 /// does where there is too little room, the vector is empty.
 pub fn list(container: &[u8], reading: Reading, chunks: &mut Vec<Chunk>) -> ListReply {
-    chunks.clear();
-    let room = chunks.spare_capacity_mut();
-    let reply = unsafe { usm_list(container.as_ptr(), container.len(), reading, room.as_mut_ptr().cast(), room.len()) };
+    fill_list(chunks, |room| unsafe {
+        usm_list(container.as_ptr(), container.len(), reading, room.as_mut_ptr().cast(), room.len())
+    })
+}
+
+fn fill_list<T>(list: &mut Vec<T>, call: impl FnOnce(&mut [MaybeUninit<T>]) -> ListReply) -> ListReply {
+    list.clear();
+    let reply = call(list.spare_capacity_mut());
     if reply.number == 0 {
-        // SAFETY: an accepted listing has filled as many records as its count says, and they fit the room.
-        unsafe { chunks.set_len(reply.count) };
+        // SAFETY: an accepted call has filled as many records as its count says, and they fit the room.
+        unsafe { list.set_len(reply.count) };
     }
     reply
 }

@@ -1,6 +1,6 @@
 use std::fs;
 
-use crate::support::{Folder, KEY, example, is_root, named, names};
+use crate::support::{Folder, KEY, SmallDisk, example, named, names};
 
 const BOTH: &str = "song.usm\nvideo  1453 bytes: ./lark.m2v\naudio  736 bytes: ./lark.adx\n";
 
@@ -174,24 +174,6 @@ fn from_standard_input_to_this_folder() {
     folder.usm_with(&["extract", "-"], &films::f()).expect(0, "-\nvideo  32 bytes: ./film.m2v\n", "");
     folder.usm_with(&["extract", "-", "-k", KEY], &example("song.usm"));
     assert_eq!(folder.read("lark.m2v"), example("song.video"));
-}
-
-/// A file system of 64 KiB in the folder `disk`, until it is dropped.
-struct SmallDisk<'a>(&'a Folder);
-
-impl SmallDisk<'_> {
-    /// Nothing where it can't be mounted.
-    fn new(folder: &Folder) -> Option<SmallDisk<'_>> {
-        fs::create_dir(folder.path("disk")).unwrap();
-        let is_mounted = is_root() && folder.shell("mount -t tmpfs -o size=64k tmpfs disk").status == 0;
-        is_mounted.then_some(SmallDisk(folder))
-    }
-}
-
-impl Drop for SmallDisk<'_> {
-    fn drop(&mut self) {
-        self.0.shell("umount disk");
-    }
 }
 
 #[test]

@@ -93,7 +93,8 @@ fn the_same_with_many_at_once() {
         }
         folder.write(&format!("{number:02}.usm"), &film);
     }
-    for command in ["info", "list", "table", "info --json", "list --json", "list --csv"] {
+    let commands = ["info", "list", "table", "info --json", "list --json", "list --csv"];
+    for command in commands {
         let one = folder.shell(&format!("$USM {command} ."));
         let many = folder.shell(&format!("$USM {command} -j ."));
         assert_eq!(one.status, 1, "{}", one.err);

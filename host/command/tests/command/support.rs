@@ -133,3 +133,21 @@ pub fn named(name: &[u8], video: &[u8], audio: &[u8]) -> Vec<u8> {
 pub fn is_root() -> bool {
     fs::metadata("/proc/self").is_ok_and(|own| std::os::unix::fs::MetadataExt::uid(&own) == 0)
 }
+
+/// A file system of 64 KiB in the folder `disk`, until it is dropped.
+pub struct SmallDisk<'a>(&'a Folder);
+
+impl SmallDisk<'_> {
+    /// Nothing where it can't be mounted.
+    pub fn new(folder: &Folder) -> Option<SmallDisk<'_>> {
+        fs::create_dir(folder.path("disk")).unwrap();
+        let is_mounted = is_root() && folder.shell("mount -t tmpfs -o size=64k tmpfs disk").status == 0;
+        is_mounted.then_some(SmallDisk(folder))
+    }
+}
+
+impl Drop for SmallDisk<'_> {
+    fn drop(&mut self) {
+        self.0.shell("umount disk");
+    }
+}
