@@ -1,4 +1,4 @@
-//! The command `usm`: what is in USM films, and their streams as files.
+//! The command `usm`: what is in USM films, their streams as files, and films made of streams.
 //!
 //! Each subcommand is a file of its own. What they share: which films (`films`), several at once and each told in its
 //! turn (`crew`), and what is written where (`output`, `names`, `pair`, `placing`).
@@ -14,6 +14,7 @@ mod keys;
 mod list;
 mod names;
 mod output;
+mod pack;
 mod pair;
 mod placing;
 mod progress;
@@ -27,7 +28,7 @@ use clap::{Parser, Subcommand};
 
 use trouble::Status;
 
-/// Looks into USM films and extracts them
+/// Looks into USM films, extracts them and packs them
 ///
 /// Each FILE is a film, a folder, of which all films that end in .usm are taken, or - for standard input. A film that is
 /// refused or can't be read does not stop the others.
@@ -48,6 +49,7 @@ enum Command {
     List(list::List),
     Table(table::Table),
     Extract(extract::Extract),
+    Pack(pack::Pack),
     #[command(hide = true)]
     Completions(completions::Completions),
 }
@@ -67,6 +69,7 @@ fn run(command: Command) -> Status {
         Command::List(list) => list.run(),
         Command::Table(table) => table.run(),
         Command::Extract(extract) => extract.run(),
+        Command::Pack(pack) => pack.run(),
         Command::Completions(completions) => completions.run(),
     }
 }

@@ -34,6 +34,14 @@ impl Trouble {
         Trouble::System(format!("{}: {error}", Shown::path(path)))
     }
 
+    /// The same, of a file that is not named yet.
+    pub fn of(self, path: &Path) -> Trouble {
+        match self {
+            Trouble::System(what) => Trouble::with(path, what),
+            trouble => trouble,
+        }
+    }
+
     pub fn status(&self) -> Status {
         match self {
             Trouble::Refused(_) => Status::Refused,

@@ -83,6 +83,26 @@ pub struct ListReply {
     pub unknown_type: u8,
 }
 
+#[repr(C)]
+#[derive(Clone, Copy)]
+pub struct SizeReply {
+    pub refused_at: usize,
+    pub size: usize,
+    pub number: u8,
+    pub unknown_type: u8,
+}
+
+#[repr(C)]
+#[derive(Clone, Copy)]
+pub struct Packing {
+    pub key: Key,
+    pub video_codec: u32,
+    pub audio_codec: u32,
+    pub has_audio: u8,
+    pub has_video_codec: u8,
+    pub has_audio_codec: u8,
+}
+
 // What usm.h says of these sizes.
 const _: () = assert!(size_of::<Reading>() == 4);
 const _: () = assert!(size_of::<Key>() == 16);
@@ -91,6 +111,8 @@ const _: () = assert!(size_of::<CellReply>() == 32);
 const _: () = assert!(size_of::<FilmReply>() == 56);
 const _: () = assert!(size_of::<Chunk>() == 24);
 const _: () = assert!(size_of::<ListReply>() == 24);
+const _: () = assert!(size_of::<SizeReply>() == 24);
+const _: () = assert!(size_of::<Packing>() == 32);
 
 #[link(name = "player", kind = "static")]
 unsafe extern "C" {
@@ -126,6 +148,17 @@ unsafe extern "C" {
         audio_len: usize,
     ) -> FilmReply;
     fn usm_list(container: *const u8, len: usize, reading: Reading, list: *mut Chunk, room: usize) -> ListReply;
+    fn usm_write(
+        name: *const u8,
+        name_len: usize,
+        video: *const u8,
+        video_len: usize,
+        audio: *const u8,
+        audio_len: usize,
+        packing: Packing,
+        out: *mut u8,
+        out_len: usize,
+    ) -> SizeReply;
 }
 
 // SAFETY, for every call below: each pointer and length are those of one slice, or of a vector's room, that is lent to
@@ -225,6 +258,24 @@ fn fill_list<T>(list: &mut Vec<T>, call: impl FnOnce(&mut [MaybeUninit<T>]) -> L
     if reply.number == 0 {
         // SAFETY: an accepted call has filled as many records as its count says, and they fit the room.
         unsafe { list.set_len(reply.count) };
+    }
+    reply
+}
+
+/// Writes a film to the room of a vector, whose contents it replaces. Where the reply refuses, as it does where there is
+/// too little room, the vector stays as it is.
+pub fn write(name: &[u8], video: &[u8], audio: &[u8], packing: Packing, film: &mut Vec<u8>) -> SizeReply {
+    fill(film, |out, room| unsafe {
+        let [name, video, audio] = [name, video, audio].map(|bytes| (bytes.as_ptr(), bytes.len()));
+        usm_write(name.0, name.1, video.0, video.1, audio.0, audio.1, packing, out, room)
+    })
+}
+
+fn fill(output: &mut Vec<u8>, call: impl FnOnce(*mut u8, usize) -> SizeReply) -> SizeReply {
+    let reply = call(output.as_mut_ptr(), output.capacity());
+    if reply.number == 0 {
+        // SAFETY: an accepted call has written as many bytes as its size says, and they fit the room.
+        unsafe { output.set_len(reply.size) };
     }
     reply
 }

@@ -23,6 +23,7 @@
 //! | go through its chunks | [`list`], [`count`] |
 //! | read the tables of its header, or any @UTF table | [`header_tables`], [`table`] |
 //! | mask and unmask payloads | [`mask`], [`unmask`], [`key_table`] |
+//! | pack streams into a film | [`pack`], [`pack_into`] |
 //!
 //! Every film, damaged or hostile, has an answer: a result or a [`Refusal`] with a number, a place and a reason. No
 //! input panics, and no memory is asked for beyond the film's own length and 24 bytes for each chunk of a list.
@@ -35,8 +36,10 @@ mod ffi;
 mod film;
 mod header;
 mod masks;
+mod pack;
 mod reading;
 mod refusal;
+mod sized;
 mod tables;
 
 #[cfg(feature = "cridecoder")]
@@ -46,6 +49,7 @@ pub use chunks::{Chunk, ChunkKind, Chunks, Iter, count, list};
 pub use film::{AudioKind, Film, Outline, Track, VideoKind, extract, extract_into, outline, sizes};
 pub use header::{HeaderTable, header_tables};
 pub use masks::{KeyTable, Stream, key_table, mask, unmask};
+pub use pack::{Streams, pack, pack_into, packed_size};
 pub use reading::{Audio, Reading};
 pub use refusal::{Reason, Refusal};
 pub use tables::{Cell, Column, Row, Table, table};

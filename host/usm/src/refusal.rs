@@ -51,6 +51,10 @@ pub enum Reason {
     TooMany,
     /// 11: a film of over [`LONGEST_FILM`](crate::LONGEST_FILM) bytes.
     TooLong,
+    /// 15: a payload to be written begins with `#CONTENTS END`, and would be skipped where the film is read.
+    MarkedPayload,
+    /// 23: an audio codec without audio.
+    CodecAlone,
     /// Another number than those above. The functions of this crate give none.
     Other(u8),
 }
@@ -86,6 +90,8 @@ impl Reason {
             9 => Reason::TooSmall,
             10 => Reason::TooMany,
             11 => Reason::TooLong,
+            15 => Reason::MarkedPayload,
+            23 => Reason::CodecAlone,
             number => Reason::Other(number),
         }
     }
@@ -105,6 +111,8 @@ impl fmt::Display for Reason {
             Reason::TooSmall => f.write_str("a table or block size that is too small"),
             Reason::TooMany => f.write_str("over 64 columns or 256 rows in a table"),
             Reason::TooLong => f.write_str("longer than 1,073,741,824 bytes"),
+            Reason::MarkedPayload => f.write_str("a payload that begins with #CONTENTS END"),
+            Reason::CodecAlone => f.write_str("an audio codec without audio"),
             Reason::Other(number) => write!(f, "reason {number}"),
         }
     }

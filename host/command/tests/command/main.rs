@@ -8,5 +8,6 @@ mod keys;
 mod list;
 mod memory;
 mod output;
+mod pack;
 mod support;
 mod table;

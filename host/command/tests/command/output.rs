@@ -23,6 +23,8 @@ fn a_full_disk_is_an_error() {
         "keys 1 2",
         "keys --json 1 2",
         "extract song.usm --force",
+        "pack song.usm -o film.usm --force",
+        "pack song.usm -o film.usm --force --json",
         "--help",
         "info --help",
         "--version",

@@ -1,0 +1,159 @@
+//! `usm pack`: streams into a film.
+
+use std::ffi::OsString;
+use std::os::unix::ffi::OsStrExt;
+use std::path::{Path, PathBuf};
+
+use clap::Args;
+use serde::Serialize;
+use usm::Streams;
+
+use crate::films::{Source, make_room};
+use crate::key;
+use crate::names::Shown;
+use crate::output::{About, NotDone, Output, as_string, not_begun, say, tell, write_all};
+use crate::pair::Pair;
+use crate::progress::{Meter, Progress};
+use crate::trouble::{Status, Trouble};
+
+/// Pack streams into a film
+///
+/// The film has the video and, where it is named, the audio, and is masked under the key. `usm extract` with the same
+/// key gives both back. The streams are clear: as extract writes them with a key. A film appears whole or not at all.
+///
+/// A film has a name of its own, by default that of its file. Without a codec it says none; audio is masked where its
+/// codec is 2.
+#[derive(Args)]
+pub struct Pack {
+    /// The video stream, or - for standard input
+    #[arg(value_name = "VIDEO")]
+    video: PathBuf,
+    /// The audio stream, or - for standard input
+    #[arg(value_name = "AUDIO")]
+    audio: Option<PathBuf>,
+    /// The film to write
+    #[arg(long, short, value_name = "FILM", required = true)]
+    output: PathBuf,
+    /// The film's own name
+    #[arg(long, value_name = "NAME")]
+    name: Option<OsString>,
+    /// The video's codec, a number; 9 is VP9
+    #[arg(long, value_name = "NUMBER")]
+    video_codec: Option<u32>,
+    /// The audio's codec, a number; 2 is ADX, 4 is HCA
+    #[arg(long, value_name = "NUMBER")]
+    audio_codec: Option<u32>,
+    /// The key, 1 to 16 hex digits
+    #[arg(long, short, value_name = "KEY")]
+    key: Option<String>,
+    /// Replace the film if it is there
+    #[arg(long)]
+    force: bool,
+    /// Write a JSON object
+    #[arg(long, conflicts_with = "quiet")]
+    json: bool,
+    /// Tell of errors alone
+    #[arg(long, short)]
+    quiet: bool,
+}
+
+impl Pack {
+    pub fn run(self) -> Status {
+        let key = match key::given(self.key.as_deref()) {
+            Ok(key) => key,
+            Err(status) => return status,
+        };
+        let (video, audio) = (source(&self.video), self.audio.as_deref().map(source));
+        if matches!((&video, &audio), (Source::StandardInput, Some(Source::StandardInput))) {
+            return say(Status::Trouble, "standard input can't be both streams");
+        }
+        match self.pack(key, &video, audio.as_ref()) {
+            Ok(sizes) => write_all(|output| self.tell(&sizes, output)),
+            Err(trouble) => self.not_done(trouble),
+        }
+    }
+
+    /// Reads the streams, writes the film, and gives it its name.
+    fn pack(&self, key: Option<u64>, video: &Source, audio: Option<&Source>) -> Result<Sizes, Trouble> {
+        let sources = [Some(video), audio];
+        let total: Option<u64> = sources.iter().flatten().map(|source| source.length()).sum();
+        let progress = Progress::new(total);
+        let meter = Meter::new(&progress, 2, total.unwrap_or(0));
+        let mut streams = [const { Vec::new() }; 2];
+        for (source, stream) in sources.into_iter().zip(&mut streams) {
+            if let Some(source) = source {
+                source.read(stream, &meter).map_err(|trouble| trouble.of(source.label()))?;
+            }
+        }
+        let [video, audio] = &streams;
+        let mut packed = Streams::new(self.name(), video).with_codecs(self.video_codec, self.audio_codec);
+        if self.audio.is_some() {
+            packed = packed.with_audio(audio);
+        }
+        let mut film = Vec::new();
+        make_room(&mut film, usm::packed_size(packed)?)?;
+        usm::pack_into(packed, key, &mut film)?;
+        let mut pair = Pair::default();
+        pair.write(self.output.clone(), &film, &meter)?;
+        pair.place(self.force)?;
+        drop(meter);
+        progress.end();
+        Ok(Sizes { film: film.len(), video: video.len(), audio: self.audio.as_ref().map(|_| audio.len()) })
+    }
+
+    /// The film's own name: as it is given, or that of its file.
+    fn name(&self) -> &[u8] {
+        let own = self.name.as_deref().or(self.output.file_name());
+        own.map_or(b"", OsStrExt::as_bytes)
+    }
+
+    fn tell(&self, sizes: &Sizes, output: &mut Output) -> Result<(), Trouble> {
+        if self.json {
+            return output.object(&Packed { about: About::new(&self.output), sizes });
+        }
+        if !self.quiet {
+            let audio = sizes.audio.map_or("no audio".to_string(), |audio| format!("audio {audio}"));
+            let Sizes { film, video, .. } = sizes;
+            tell!(output, "{}: {film} bytes, video {video}, {audio}\n", Shown::path(&self.output));
+        }
+        Ok(())
+    }
+
+    fn not_done(&self, trouble: Trouble) -> Status {
+        let told =
+            write_all(|output| if self.json { output.object(&NotDone::new(&self.output, &trouble)) } else { Ok(()) });
+        let trouble = match trouble {
+            Trouble::Refused(refusal) => {
+                return say(Status::Refused, &at(&self.output, &refusal.to_string())).max(told);
+            }
+            trouble => trouble,
+        };
+        not_begun(trouble).max(told)
+    }
+}
+
+fn at(path: &Path, what: &str) -> String {
+    format!("{}: {what}", Shown::path(path))
+}
+
+fn source(path: &Path) -> Source {
+    if path.as_os_str() == "-" { Source::StandardInput } else { Source::File(path.to_path_buf()) }
+}
+
+#[derive(Serialize)]
+struct Sizes {
+    #[serde(rename = "bytes", serialize_with = "as_string")]
+    film: usize,
+    #[serde(serialize_with = "as_string")]
+    video: usize,
+    #[serde(serialize_with = "crate::output::as_some_string")]
+    audio: Option<usize>,
+}
+
+#[derive(Serialize)]
+struct Packed<'a> {
+    #[serde(flatten)]
+    about: About<'a>,
+    #[serde(flatten)]
+    sizes: &'a Sizes,
+}
