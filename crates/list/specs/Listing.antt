@@ -23,9 +23,13 @@ use Rattle.list.specs.declared.ListReply.{ListReply}
 abbrev pub recordOf : Chunk → ChunkRecord
 recordOf chunk = record { start = chunk .start; kind = kindNumber (chunk .kind); «data_type» = chunk .«data_type»; channel = chunk .channel; len = chunk .len }
 
--- "Listing returns the chunk count"; 13, "chunk list too short", with the count, at 0
+-- 13, "chunk list too short", with the count, at 0; or the count
+abbrev pub countedIn : ℕ → ℕ → Listed
+countedIn room count = cond (ltb room count) (Refused (record { cause = ShortList count; place = 0 })) (Count count)
+
+-- "Listing returns the chunk count"
 abbrev pub listedIn : ℕ → Surveyed → Listed
-listedIn room (survey.Film header applied count video audio) = cond (ltb room count) (Refused (record { cause = ShortList count; place = 0 })) (Count count)
+listedIn room (survey.Film header applied count video audio) = countedIn room count
 listedIn room (survey.Refused refusal) = Refused refusal
 
 -- what a listing of a container into so many records answers
@@ -43,7 +47,7 @@ recordsOf (film header applied chunks) = map recordOf chunks
 recordsOf (refused refusal) = []
 
 -- "Every refusal leaves .. the list unchanged"; "records past a .. count stay unchanged"
-abbrev pub filledBy : Listed → List ChunkRecord → List ChunkRecord → List ChunkRecord
+abbrev pub filledBy : {A : Type 0} → Listed → List A → List A → List A
 filledBy (Count n) list records = sets list 0 records
 filledBy (Refused refusal) list records = list
 

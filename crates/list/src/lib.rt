@@ -3,7 +3,7 @@
 ghost use mathlib.Core.Path.{_≡_};
 ghost use Rattle.film.specs.Films.{surveyOf, filmOf};
 ghost use Rattle.reading.specs.Choices.{readingBy};
-ghost use Rattle.list.specs.Listing.{listedIn, listReply, recordOf};
+ghost use Rattle.list.specs.Listing.{countedIn, listedIn, listReply, recordOf};
 ghost use Rattle.list.specs.Filling.{recordsIn, startIn, readingIn, planOf, noRecord, stepAt};
 use chunk::Chunk;
 use chunk::ChunkStep;
@@ -54,6 +54,19 @@ pub struct RecordStep {
     pub next: usize,
 }
 
+// What is answered where so many records are to go into a list: their count, or that the list is too short.
+pub fn counted_in(room: usize, count: usize) -> Listed
+    ensures { λ r. ⌜ r ≡ countedIn room count ⌝ }
+{
+    if room < count {
+        return Listed::Refused(Refusal {
+            cause: Cause::ShortList(count),
+            place: 0,
+        });
+    }
+    Listed::Count(count)
+}
+
 // What a listing into a list of so many records answers on a film.
 fn listed_in(room: usize, survey: Surveyed) -> Listed
     ensures { λ r. ⌜ r ≡ listedIn room survey ⌝ }
@@ -65,21 +78,13 @@ fn listed_in(room: usize, survey: Surveyed) -> Listed
             count,
             video: _,
             audio: _,
-        } => {
-            if room < count {
-                return Listed::Refused(Refusal {
-                    cause: Cause::ShortList(count),
-                    place: 0,
-                });
-            }
-            Listed::Count(count)
-        }
+        } => counted_in(room, count),
         Surveyed::Refused(refusal) => Listed::Refused(refusal),
     }
 }
 
 // An answer as C reads it.
-fn list_reply(answer: Listed) -> ListReply
+pub fn list_reply(answer: Listed) -> ListReply
     ensures { λ r. ⌜ r ≡ listReply answer ⌝ }
 {
     match answer {

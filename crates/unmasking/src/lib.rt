@@ -34,8 +34,8 @@ pub fn key_by(given: u8, number: u64) -> Key
     Key::Given(number)
 }
 
-// Whether audio is ADX.
-fn is_adx(codec: Codec) -> bool
+// Whether audio of a codec is ADX, the only audio that is masked.
+pub fn is_adx(codec: Codec) -> bool
     ensures { λ r. ⌜ r ≡ isAdx codec ⌝ }
 {
     match codec {
