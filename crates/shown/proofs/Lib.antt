@@ -1,0 +1,4 @@
+pub mod ShownLaws
+pub mod PieceLaws
+pub mod Promises
+pub mod OneAnswer
