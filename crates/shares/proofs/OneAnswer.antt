@@ -1,0 +1,11 @@
+-- No second answer meets a contract of this crate: what a caller learns makes two results one. Assumes nothing.
+use mathlib.Core.Path.{_≡_}
+use Rattle.laws.proofs.OneAnswer.{no-second-answer}
+use Rattle.shares.proofs.are_bad.Reads as are-bad
+use Rattle.shares.proofs.line_at.Reads as line-at
+
+pub are-bad-once : (κs : _) (args : _) (r r′ : _) (exit exit′ : _) → are-bad.Learnt κs args r exit → are-bad.Learnt κs args r′ exit′ → r ≡ r′
+are-bad-once κs args r r′ exit exit′ = no-second-answer
+
+pub line-at-once : (κs : _) (args : _) (r r′ : _) (exit exit′ : _) → line-at.Learnt κs args r exit → line-at.Learnt κs args r′ exit′ → r ≡ r′
+line-at-once κs args r r′ exit exit′ = no-second-answer

@@ -1,0 +1,2 @@
+pub mod Tenants
+pub mod Shares
