@@ -1,0 +1,5 @@
+pub mod LineLaws
+pub mod StateLaws
+pub mod GivenLaws
+pub mod Promises
+pub mod OneAnswer

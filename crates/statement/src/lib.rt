@@ -1,0 +1,72 @@
+// The statement of a film: for each tenant its group, all of whom have one copy, and its share of that. What a film shows of a
+// key decides the groups, so no stream is unpacked.
+// Request 13. Ours: the Rust has nothing of the kind.
+ghost use mathlib.Core.Path.{_≡_};
+ghost use Prim.Native.Nat.{_≤_};
+ghost use lib.ListN.{length};
+ghost use lib.Seq.{sets};
+ghost use Rattle.list.specs.Listing.{listReply};
+ghost use Rattle.shares.specs.Shares.{lineAt, linesFrom};
+ghost use Rattle.statement.specs.Statements.{refusedBy, Stated};
+use film::Surveyed;
+use list::ListReply;
+use list::Listed;
+use reading::AudioChoice;
+use refusal::Cause;
+use refusal::Refusal;
+
+// A longer container is refused.
+const LONGEST: usize = 0x4000_0000;
+
+// The reply to a refusal of all that is asked, at place 0.
+fn refused(cause: Cause) -> ListReply
+    ensures { λ r. ⌜ r ≡ listReply (refusedBy cause) ⌝ }
+{
+    list::list_reply(Listed::Refused(Refusal { cause, place: 0 }))
+}
+
+// Puts the lines of all tenants at the start of a list.
+fn put_lines(tenants: &[[u64; 2]], bytes: usize, size: usize, lines: &mut [[u64; 3]])
+    requires { ⌜ length (now tenants) ≤ length (now lines) ⌝ }
+    ensures { λ _. ⌜ now (lines .exit) ≡ sets (now (lines .entry)) 0 (linesFrom (lineAt bytes size (now (tenants .entry))) 0 (length (now (tenants .entry)))) ⌝ }
+{
+    let mut rank = 0;
+    while rank < tenants.len() {
+        let line = shares::line_at(tenants, bytes, size, rank);
+        lines[rank] = line;
+        rank += 1;
+    }
+}
+
+// Fills a lent list with a line for each tenant, by rising tenant: its number, the lowest number of its group, and its share.
+// Returns the tenants' count. A refusal leaves the list as it was, and lines past the count stay.
+pub fn state(container: &[u8], tenants: &[[u64; 2]], lines: &mut [[u64; 3]]) -> ListReply
+    ensures { λ r. ⌜ Stated (now (container .entry)) (now (tenants .entry)) (now (lines .entry)) r (now (lines .exit)) ⌝ }
+{
+    if LONGEST < container.len() {
+        return refused(Cause::TooLong);
+    }
+    if shares::are_bad(tenants) {
+        return refused(Cause::BadTenants);
+    }
+    let count = tenants.len();
+    match film::survey(container, reading::as_original(AudioChoice::Chosen)) {
+        Surveyed::Film {
+            header,
+            reading: applied,
+            count: _,
+            video,
+            audio,
+        } => {
+            if lines.len() < count {
+                return refused(Cause::ShortList(count));
+            }
+            let codec = header.audio_codec;
+            let adx = unmasking::is_adx(codec);
+            let bytes = shown::shown_from(container, header.start, applied, adx);
+            put_lines(tenants, bytes, video + audio, lines);
+            list::list_reply(Listed::Count(count))
+        }
+        Surveyed::Refused(refusal) => list::list_reply(Listed::Refused(refusal)),
+    }
+}
