@@ -102,6 +102,7 @@ static void try_layout(void)
     CHECK(offsetof(struct usm_chunk, kind) == 8);
     CHECK(offsetof(struct usm_chunk, data_type) == 9);
     CHECK(offsetof(struct usm_chunk, channel) == 10);
+    CHECK(offsetof(struct usm_chunk, offset) == 12);
     CHECK(offsetof(struct usm_chunk, length) == 16);
 }
 
@@ -292,6 +293,53 @@ static void try_lists_on_the_song(void)
     }
 }
 
+/* The song with its second audio chunk on channel 7: each channel alone is its piece of the joined stream. */
+static void try_channels(void)
+{
+    static struct song dubbed;
+    const uint8_t *film = dubbed.stored.bytes;
+    size_t len = song.stored.len, first = 0x190, second = 0x150;
+    struct usm_key key = usm_with_key(KEY);
+
+    dubbed = song;
+    dubbed.stored.bytes[2080 + 12] = 7;
+    CHECK(extract(film, len, USM_READ_WITH_AUDIO, key, len, len).audio_size == first + second);
+    CHECK(extract(film, len, usm_read_channel(0), key, len, len).audio_size == first);
+    CHECK(memcmp(lent.audio, song.audio, first) == 0);
+    CHECK(memcmp(lent.video, song.video, song.video_len) == 0);
+    CHECK(extract(film, len, usm_read_channel(7), key, len, len).audio_size == second);
+    CHECK(memcmp(lent.audio, song.audio + first, second) == 0);
+    CHECK(is_old(lent.audio, second, sizeof lent.audio));
+    CHECK(extract(film, len, usm_read_channel(1), key, len, 0).audio_size == 0);
+    CHECK(list(film, len, usm_read_channel(7), SONG_CHUNKS).number == USM_ACCEPTED);
+    CHECK(is_chunk(1, 1344, USM_CHUNK_AUDIO, 0, 0) && lent.list[1].channel == 0);
+    CHECK(is_chunk(3, 2080, USM_CHUNK_AUDIO, 1, second) && lent.list[3].channel == 7);
+}
+
+/* The song with another header size in its first chunk, whose payload then starts after it where that is asked. */
+static void try_payloads(void)
+{
+    static struct song longer;
+    const struct usm_reading after = {USM_AUDIO_ALL, 0, USM_PAYLOADS_AFTER_HEADER, USM_TABLES_ORIGINAL};
+    const uint8_t *film = longer.stored.bytes;
+    size_t len = song.stored.len;
+
+    longer = song;
+    CHECK(same_film(extract(film, len, after, USM_NO_KEY, len, len),
+                    extract(film, len, USM_READ_WITH_AUDIO, USM_NO_KEY, len, len)));
+    longer.stored.bytes[704 + 9] = 24 + 8;
+    CHECK(extract(film, len, after, USM_NO_KEY, len, len).video_size == song.video_len - 8);
+    CHECK(memcmp(lent.video, film + 704 + 40, 0x258) == 0);
+    CHECK(list(film, len, after, SONG_CHUNKS).number == USM_ACCEPTED);
+    CHECK(is_chunk(0, 704, USM_CHUNK_VIDEO, 0, 0x258) && lent.list[0].offset == 40);
+    CHECK(is_chunk(5, 3104, USM_CHUNK_OTHER, 0, 0) && lent.list[5].offset == 32);
+    CHECK(list(film, len, USM_READ_WITH_AUDIO, SONG_CHUNKS).number == USM_ACCEPTED);
+    CHECK(is_chunk(0, 704, USM_CHUNK_VIDEO, 0, 0x258) && lent.list[0].offset == 32);
+    longer.stored.bytes[704 + 9] = 23;
+    CHECK(same_list(list(film, len, after, SONG_CHUNKS), list_reply(USM_SHORT_HEADER, 704, 0, 0)));
+    CHECK(list(film, len, USM_READ_WITH_AUDIO, SONG_CHUNKS).number == USM_ACCEPTED);
+}
+
 int main(void)
 {
     make_f(f);
@@ -306,6 +354,8 @@ int main(void)
     try_outputs_on_the_song();
     try_replies_on_the_song();
     try_lists_on_the_song();
+    try_channels();
+    try_payloads();
     printf("checks passed\n");
     return 0;
 }

@@ -109,6 +109,7 @@ void usm_mask_audio(uint64_t key, uint8_t *payload, size_t len);
 #define USM_OVERSIZED 14      /* both streams together exceed the container: it cannot occur (proved) */
 #define USM_MARKED_PAYLOAD 15 /* a payload that would be written begins with the end marker */
 #define USM_SHORT_ROOM 16     /* the output is too short for what would be written */
+#define USM_SHORT_HEADER 17   /* a header size below 0x18, where payloads stand after their headers */
 #define USM_UNKNOWN_STORAGE 18 /* a column's high nibble is none of 1, 3, 5 and 7, where these are the only ones */
 #define USM_CODEC_ALONE 23    /* an audio codec is given, and no audio */
 
@@ -125,8 +126,11 @@ void usm_mask_audio(uint64_t key, uint8_t *payload, size_t len);
  *               its numbers and floats are 0, its strings and data empty. 1, 3, 5 and 7 are the only
  *               high nibbles, and another is USM_UNKNOWN_STORAGE. Every other number: as the original
  *               reads them, where such a column has a value in each row
- *     payloads  room for a choice to come. Today no number of it changes anything; 0 will go on to
- *               mean what happens today
+ *     payloads  USM_PAYLOADS_AFTER_HEADER, 1: a payload starts 8 + header size bytes after its chunk's
+ *               start, where the header ends. A header size below 0x18 is USM_SHORT_HEADER there, for a
+ *               payload that is taken. Every other number: as the original reads them, 0x20 bytes after
+ *               the chunk's start whatever the header size says. Where every header size is 0x18 both
+ *               are the same (proved)
  */
 struct usm_reading {
     uint8_t audio;
@@ -140,18 +144,22 @@ struct usm_reading {
 #define USM_AUDIO_ALL 1
 #define USM_AUDIO_CHANNEL 2
 
+/* Where payloads start. */
+#define USM_PAYLOADS_ORIGINAL 0
+#define USM_PAYLOADS_AFTER_HEADER 1
+
 /* The two ways to read tables. */
 #define USM_TABLES_ORIGINAL 0
 #define USM_TABLES_ZERO_COLUMNS 1
 
-/* Ready readings: tables as the original reads them, with all audio and without. */
-static const struct usm_reading USM_READ_WITH_AUDIO = {USM_AUDIO_ALL, 0, 0, USM_TABLES_ORIGINAL};
-static const struct usm_reading USM_READ_VIDEO_ONLY = {USM_AUDIO_NONE, 0, 0, USM_TABLES_ORIGINAL};
+/* Ready readings: tables and payloads as the original reads them, with all audio and without. */
+static const struct usm_reading USM_READ_WITH_AUDIO = {USM_AUDIO_ALL, 0, USM_PAYLOADS_ORIGINAL, USM_TABLES_ORIGINAL};
+static const struct usm_reading USM_READ_VIDEO_ONLY = {USM_AUDIO_NONE, 0, USM_PAYLOADS_ORIGINAL, USM_TABLES_ORIGINAL};
 
 /* The same with audio of one channel. */
 static inline struct usm_reading usm_read_channel(uint8_t channel)
 {
-    struct usm_reading reading = {USM_AUDIO_CHANNEL, channel, 0, USM_TABLES_ORIGINAL};
+    struct usm_reading reading = {USM_AUDIO_CHANNEL, channel, USM_PAYLOADS_ORIGINAL, USM_TABLES_ORIGINAL};
     return reading;
 }
 
@@ -193,6 +201,8 @@ static inline const char *usm_reason(uint8_t number)
         return "a payload begins with the end marker";
     case USM_SHORT_ROOM:
         return "the output is too short";
+    case USM_SHORT_HEADER:
+        return "a header that is too short";
     case USM_UNKNOWN_STORAGE:
         return "unknown storage of a column";
     case USM_CODEC_ALONE:
@@ -325,13 +335,15 @@ struct usm_film_reply usm_extract(const uint8_t *container, size_t len, struct u
                                   uint8_t *video, size_t video_len, uint8_t *audio, size_t audio_len);
 
 /* A chunk: the byte of the container where it starts, its kind, its data type (0 to 3), its channel
- * (byte 12 of any kind of chunk), and the bytes of its payload, which begins at start + 32 and lies
- * within the container (proved); 0 where it is skipped. 24 bytes. */
+ * (byte 12 of any kind of chunk), and its payload: it begins at start + offset, has so many bytes, and
+ * lies within the container (proved). Where it is skipped it has 0 bytes, and the offset is 32; else
+ * the offset is 32 or, with USM_PAYLOADS_AFTER_HEADER, 8 + header size. 24 bytes. */
 struct usm_chunk {
     size_t start;
     uint8_t kind;
     uint8_t data_type;
     uint8_t channel;
+    uint32_t offset;
     size_t length;
 };
 

@@ -6,16 +6,16 @@ use Prim.Native.Nat.{ℕ, _+_, _-_, _≤_, _<_}
 use native.Mathlib.Omega.{arith}
 use lib.ListN.{length}
 use borrow.Author.Tests.{eq-eqb, ne-eqb, lt-ltb, le-ltb}
-use Rattle.refusal.specs.declared.Cause.the-variants.{RanOut, TooSmall}
+use Rattle.refusal.specs.declared.Cause.the-variants.{RanOut, TooSmall, ShortHeader}
+use Rattle.reading.specs.declared.PayloadMode.{PayloadMode}
 use Rattle.reading.specs.declared.Applied.{Applied}
 use Rattle.word.specs.Numbers.{be32}
 use Rattle.signature.specs.Signatures.{SFV, SFA, contentsEnd, standsAt}
 use Rattle.chunk.specs.declared.Kind.the-variants.{Video, Audio, Other, End}
 use Rattle.chunk.specs.declared.Opening.{Opening}
-use Rattle.chunk.specs.declared.Chunk.{Chunk}
 use Rattle.chunk.specs.declared.ChunkStep.the-variants.{Over, Found}
 use Rattle.chunk.specs.Openings.{kindAt, openingAt}
-use Rattle.chunk.specs.Chunks.{isTaken, chunkOf, refusedAt, presentIn, takenAt, openedAt, chunkAt}
+use Rattle.chunk.specs.Chunks.{isTaken, offsetOf, isShort, chunkOf, refusedAt, heldAt, takenAt, openedAt, chunkAt}
 
 module _ (container : List ℕ) (c : ℕ) where
   pub marked : standsAt contentsEnd container (c + 0x20) ≡ true → End ≡ kindAt container c
@@ -37,30 +37,39 @@ module _ (container : List ℕ) (c : ℕ) where
       unfolding kindAt
       other f = rw (unmarked, ← read, ne-eqb letters SFV no-video, ne-eqb letters SFA f)
 
--- chunk is the one that the opening makes, with the payload that its sizes say
-module _ (container : List ℕ) (c : ℕ) (opening : Opening) where
-  pub too-small : opening .block < opening .header + opening .footer → refusedAt c TooSmall ≡ takenAt container c opening
-  unfolding takenAt
+-- n is the length that the sizes say
+module _ (container : List ℕ) (c : ℕ) (opening : Opening) (offset : ℕ) where
+  pub too-small : opening .block < opening .header + opening .footer → refusedAt c TooSmall ≡ heldAt container c opening offset
+  unfolding heldAt
   too-small h = rw (lt-ltb _ _ h)
 
-  module _ (large : opening .header + opening .footer ≤ opening .block) (chunk : Chunk)
-      (made : chunk ≡ chunkOf c opening (opening .block - (opening .header + opening .footer))) where
-    pub ran-out : length container - chunk .payload < chunk .len → refusedAt c RanOut ≡ takenAt container c opening
-    unfolding takenAt presentIn chunkOf
-    ran-out h =
-        let g : length container - (c + 0x20) < opening .block - (opening .header + opening .footer) = rw made at h in
-        rw (le-ltb _ _ large, lt-ltb _ _ g)
+  module _ (large : opening .header + opening .footer ≤ opening .block) where
+    abbrev n : ℕ
+    n = opening .block - (opening .header + opening .footer)
 
-    pub present : chunk .len ≤ length container - chunk .payload → Found chunk ≡ takenAt container c opening
-    unfolding takenAt presentIn
-    present h = rw (le-ltb _ _ large, ← made, le-ltb _ _ h)
+    pub ran-out : length container < c + offset + n → refusedAt c RanOut ≡ heldAt container c opening offset
+    unfolding heldAt
+    ran-out h = rw (le-ltb _ _ large, lt-ltb (length container) (c + offset + n) h)
+
+    pub present : c + offset + n ≤ length container → Found (chunkOf c opening offset n) ≡ heldAt container c opening offset
+    unfolding heldAt
+    present h = rw (le-ltb _ _ large, le-ltb (length container) (c + offset + n) h)
+
+module _ (container : List ℕ) (mode : PayloadMode) (c : ℕ) (opening : Opening) where
+  pub short : isShort mode opening ≡ true → refusedAt c ShortHeader ≡ takenAt container mode c opening
+  unfolding takenAt
+  short e = rw e
+
+  pub held : isShort mode opening ≡ false → (offset : ℕ) → offset ≡ offsetOf mode opening → heldAt container c opening offset ≡ takenAt container mode c opening
+  unfolding takenAt
+  held e offset q = rw (e, q)
 
 module _ (container : List ℕ) (reading : Applied) (c : ℕ) where
-  pub taken : (opening : Opening) → isTaken reading (opening .kind) (opening .channel) ≡ true → takenAt container c opening ≡ openedAt container reading c opening
+  pub taken : (opening : Opening) → isTaken reading (opening .kind) (opening .channel) ≡ true → takenAt container (reading .payloads) c opening ≡ openedAt container reading c opening
   unfolding openedAt
   taken opening e = rw e
 
-  pub skipped : (opening : Opening) → isTaken reading (opening .kind) (opening .channel) ≡ false → Found (chunkOf c opening 0) ≡ openedAt container reading c opening
+  pub skipped : (opening : Opening) → isTaken reading (opening .kind) (opening .channel) ≡ false → Found (chunkOf c opening 0x20 0) ≡ openedAt container reading c opening
   unfolding openedAt
   skipped opening e = rw e
 

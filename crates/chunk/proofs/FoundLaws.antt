@@ -1,5 +1,5 @@
--- What is known of a chunk that was found: it has its 45 bytes, its channel is byte 12, its data type is below 4, its payload lies behind its first 8 bytes and in the container, and the
--- next place lies past its length. Assumes nothing.
+-- What is known of a chunk that was found: it has its 45 bytes, its kind and its channel are its opening's, its data type is below 4, its payload lies behind its first 8 bytes, no
+-- further than its header reaches and in the container, and the next place lies past its length. All this in both payload modes. Assumes nothing.
 use mathlib.Core.Path.{_≡_, refl}
 use mathlib.Core.List.{List}
 use mathlib.Core.Bool.{Bool, true, false, cond}
@@ -9,22 +9,28 @@ use lib.ListN.{length}
 use lib.Dec.{ltb}
 use borrow.Author.Tests.{ltb-false}
 use Rattle.laws.specs.Lists.{at}
+use Rattle.word.specs.Numbers.{be16}
+use Rattle.refusal.specs.declared.Refusal.{Refusal}
 use Rattle.refusal.specs.declared.Cause.{Cause}
-use Rattle.refusal.specs.declared.Cause.the-variants.{RanOut, TooSmall}
+use Rattle.refusal.specs.declared.Cause.the-variants.{RanOut, TooSmall, ShortHeader}
+use Rattle.reading.specs.declared.PayloadMode.{PayloadMode}
+use Rattle.reading.specs.declared.PayloadMode.the-variants.{Original, AfterHeader}
 use Rattle.reading.specs.declared.Applied.{Applied}
 use Rattle.chunk.specs.declared.Opening.{Opening}
 use Rattle.chunk.specs.declared.Chunk.{Chunk}
 use Rattle.chunk.specs.declared.ChunkStep.{ChunkStep}
-use Rattle.chunk.specs.declared.ChunkStep.the-variants.{Over, Found}
-use Rattle.chunk.specs.Openings.{openingAt}
-use Rattle.chunk.specs.Chunks.{isTaken, chunkOf, refusedAt, presentIn, takenAt, openedAt, chunkAt}
+use Rattle.chunk.specs.declared.ChunkStep.the-variants.{Over, Found, Refused}
+use Rattle.chunk.specs.Openings.{kindAt, openingAt}
+use Rattle.chunk.specs.Chunks.{isTaken, offsetOf, isShort, chunkOf, refusedAt, heldAt, takenAt, openedAt, chunkAt}
 
 pub record Within (container : List ℕ) (c : ℕ) (chunk : Chunk) : Type 0 where
   pub whole : 45 ≤ length container - c
   pub start : chunk .start ≡ c
+  pub kind : chunk .kind ≡ kindAt container c
   pub channel : chunk .channel ≡ at container (c + 12)
   pub typed : chunk .«data_type» < 4
   pub behind : c + 8 ≤ chunk .payload
+  pub near : chunk .payload ≤ c + 0x20 + be16 container (c + 8)
   pub inside : chunk .payload + chunk .len ≤ length container
   pub past : c + 8 + chunk .len ≤ chunk .next
 
@@ -37,33 +43,75 @@ pub not-refused : (t : Bool) (c : ℕ) (why : Cause) (chunk : Chunk) (next : Chu
 not-refused true c why chunk next e = let z : _≡_ {A = ℕ} 0 1 = cc in absurd (omega arith)
 not-refused false c why chunk next e = (refl, e)
 
-module _ (container : List ℕ) (c : ℕ) (chunk : Chunk) (enough : 45 ≤ length container - c) (opening : Opening) (channel : opening .channel ≡ at container (c + 12))
-    (typed : opening .«data_type» < 4) where
-  -- the chunk at c with a payload of n bytes
-  of-length : (n : ℕ) → c + 0x20 + n ≤ length container → n ≤ opening .block → Found (chunkOf c opening n) ≡ Found chunk → Within container c chunk
-  unfolding chunkOf
-  of-length n h k e =
-      let f : chunkOf c opening n ≡ chunk = cc in
-      rw (← f) (record { whole = enough; start = refl; channel = channel; typed = typed; behind = omega arith; inside = h; past = omega arith })
+-- a payload stands behind the first 8 bytes, and no further than its header reaches
+offset-bounds : (mode : PayloadMode) (opening : Opening) → (8 ≤ offsetOf mode opening) × (offsetOf mode opening ≤ 0x20 + opening .header)
+offset-bounds Original opening = (omega arith, omega arith)
+offset-bounds AfterHeader opening = (omega arith, omega arith)
 
-  of-taken : takenAt container c opening ≡ Found chunk → Within container c chunk
-  unfolding takenAt presentIn chunkOf
-  of-taken e =
+module _ (container : List ℕ) (c : ℕ) (chunk : Chunk) (enough : 45 ≤ length container - c) where
+  abbrev opening : Opening
+  opening = openingAt container c
+
+  -- the chunk at c with a payload of n bytes
+  of-length : (offset n : ℕ) → 8 ≤ offset → offset ≤ 0x20 + opening .header → c + offset + n ≤ length container → n ≤ opening .block
+      → Found (chunkOf c opening offset n) ≡ Found chunk → Within container c chunk
+  unfolding chunkOf openingAt
+  of-length offset n least most h k e =
+      let f : chunkOf c opening offset n ≡ chunk = cc in
+      rw (← f) (record { whole = enough; start = refl; kind = refl; channel = refl; typed = omega arith; behind = omega arith; near = omega arith; inside = h; past = omega arith })
+
+  of-held : (offset : ℕ) → 8 ≤ offset → offset ≤ 0x20 + opening .header → heldAt container c opening offset ≡ Found chunk → Within container c chunk
+  unfolding heldAt
+  of-held offset least most e =
       let spare = opening .header + opening .footer in
       let n = opening .block - spare in
       let a = not-refused (ltb (opening .block) spare) c TooSmall chunk _ e in
-      let b = not-refused (ltb (length container - (c + 0x20)) n) c RanOut chunk _ (a .1) in
-      let h = ltb-false (length container - (c + 0x20)) n (b .0) in
-      of-length n (omega arith) (omega arith) (b .1)
+      let b = not-refused (ltb (length container) (c + offset + n)) c RanOut chunk _ (a .1) in
+      of-length offset n least most (ltb-false (length container) (c + offset + n) (b .0)) (omega arith) (b .1)
 
-  of-either : (t : Bool) → cond t (takenAt container c opening) (Found (chunkOf c opening 0)) ≡ Found chunk → Within container c chunk
-  of-either true e = of-taken e
-  of-either false e = of-length 0 (omega arith) (omega arith) e
+  of-taken : (mode : PayloadMode) → takenAt container mode c opening ≡ Found chunk → Within container c chunk
+  unfolding takenAt
+  of-taken mode e =
+      let bounds = offset-bounds mode opening in
+      of-held (offsetOf mode opening) (bounds .0) (bounds .1) (not-refused (isShort mode opening) c ShortHeader chunk _ e .1)
+
+  of-either : (mode : PayloadMode) (t : Bool) → cond t (takenAt container mode c opening) (Found (chunkOf c opening 0x20 0)) ≡ Found chunk → Within container c chunk
+  of-either mode true e = of-taken mode e
+  of-either mode false e = of-length 0x20 0 (omega arith) (omega arith) (omega arith) (omega arith) e
 
 pub found : (container : List ℕ) (reading : Applied) (c : ℕ) (chunk : Chunk) → chunkAt container reading c ≡ Found chunk → Within container c chunk
-unfolding chunkAt openedAt openingAt
+unfolding chunkAt openedAt
 found container reading c chunk e =
     let a = not-over (ltb (length container - c) 4) chunk _ e in
     let b = not-refused (ltb (length container - c) 45) c RanOut chunk _ (a .1) in
-    of-either container c chunk (ltb-false (length container - c) 45 (b .0)) (openingAt container c) refl (omega arith)
-    (isTaken reading (openingAt container c .kind) (openingAt container c .channel)) (b .1)
+    of-either container c chunk (ltb-false (length container - c) 45 (b .0)) (reading .payloads) (isTaken reading (openingAt container c .kind) (openingAt container c .channel)) (b .1)
+
+-- ---- where the chunks are over in one reading, they are in every other
+
+never-over : (taken low small short : Bool) (first second third : Refusal) (chunk other : Chunk)
+    → cond taken (cond low (Refused first) (cond small (Refused second) (cond short (Refused third) (Found chunk)))) (Found other) ≡ Over → _≡_ {A = ℕ} 0 1
+never-over true true small short first second third chunk other e = cc
+never-over true false true short first second third chunk other e = cc
+never-over true false false true first second third chunk other e = cc
+never-over true false false false first second third chunk other e = cc
+never-over false low small short first second third chunk other e = cc
+
+opened-is-not-over : (container : List ℕ) (reading : Applied) (c : ℕ) (opening : Opening) → openedAt container reading c opening ≡ Over → _≡_ {A = ℕ} 0 1
+unfolding openedAt takenAt heldAt
+opened-is-not-over container reading c opening e =
+    let spare = opening .header + opening .footer in
+    let mode = reading .payloads in
+    let offset = offsetOf mode opening in
+    let n = opening .block - spare in
+    never-over (isTaken reading (opening .kind) (opening .channel)) (isShort mode opening) (ltb (opening .block) spare) (ltb (length container) (c + offset + n))
+    (record { cause = ShortHeader; place = c }) (record { cause = TooSmall; place = c }) (record { cause = RanOut; place = c }) (chunkOf c opening offset n) (chunkOf c opening 0x20 0) e
+
+pub over-in-every : (container : List ℕ) (reading other : Applied) (c : ℕ) → chunkAt container reading c ≡ Over → chunkAt container other c ≡ Over
+unfolding chunkAt
+over-in-every container reading other c e = by-left (ltb (length container - c) 4) (ltb (length container - c) 45) refl e
+  where
+    by-left : (s t : Bool) → ltb (length container - c) 4 ≡ s → cond s Over (cond t (refusedAt c RanOut) (openedAt container reading c (openingAt container c))) ≡ Over
+        → chunkAt container other c ≡ Over
+    by-left true t q e = rw q
+    by-left false true q e = let z : _≡_ {A = ℕ} 0 1 = cc in absurd (omega arith)
+    by-left false false q e = absurd (omega (arith, opened-is-not-over container reading c (openingAt container c) e))

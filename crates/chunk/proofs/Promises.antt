@@ -1,8 +1,22 @@
--- The promises of specs/Promises.antt, each under its name: what FoundLaws knows of a chunk that was found. Assumes nothing.
-use Prim.Native.Nat.{_+_, _≤_}
+-- The promises of specs/Promises.antt, each under its name: what FoundLaws knows of a chunk that was found; and both modes at header size 0x18. Assumes nothing.
+use Prim.Native.Nat.{ℕ, _+_, _≤_}
+use mathlib.Core.Path.{_≡_, refl, sym, ap, _∙_}
+use mathlib.Core.List.{List}
+use mathlib.Core.Bool.{Bool, true, false}
 use native.Mathlib.Omega.{arith}
 use lib.ListN.{length, length-take, length-drop}
 use borrow.Author.Tests.{le-leb}
+use Rattle.reading.specs.declared.AudioChoice.{AudioChoice}
+use Rattle.reading.specs.declared.PayloadMode.{PayloadMode}
+use Rattle.reading.specs.declared.PayloadMode.the-variants.{Original, AfterHeader}
+use Rattle.reading.specs.declared.Applied.{Applied}
+use Rattle.reading.specs.Choices.{takesChannel}
+use Rattle.chunk.specs.declared.Kind.{Kind}
+use Rattle.chunk.specs.declared.Kind.the-variants.{Video, Audio, Other, End}
+use Rattle.chunk.specs.declared.Opening.{Opening}
+use Rattle.chunk.specs.declared.ChunkStep.{ChunkStep}
+use Rattle.chunk.specs.Openings.{openingAt}
+use Rattle.chunk.specs.Chunks.{isTaken, heldAt, takenAt, openedAt, chunkAt}
 use Rattle.chunk.specs.Promises as promised
 use Rattle.chunk.proofs.FoundLaws.{found}
 
@@ -14,3 +28,32 @@ PayloadsLieWithin container reading c chunk e =
 
 pub NextLiesAfter : promised.NextLiesAfter
 NextLiesAfter container reading c chunk e = let w = found container reading c chunk e in (w .start, omega arith)
+
+-- ---- both modes
+
+-- behind a header of 0x18 a payload starts at c + 0x20
+behind-0x18 : (container : List ℕ) (mode : PayloadMode) (c : ℕ) (opening : Opening) → opening .header ≡ 0x18 → takenAt container mode c opening ≡ heldAt container c opening 0x20
+unfolding takenAt
+behind-0x18 container Original c opening h = refl
+behind-0x18 container AfterHeader c opening h = rw h
+
+module _ (container : List ℕ) (reading other : Applied) (c : ℕ) (same : reading .audio ≡ other .audio) where
+  both-take : (kind : Kind) (channel : ℕ) → isTaken reading kind channel ≡ isTaken other kind channel
+  both-take Video channel = refl
+  both-take Audio channel = ap (λ (choice : AudioChoice). takesChannel choice channel) same
+  both-take Other channel = refl
+  both-take End channel = refl
+
+  same-opened : (opening : Opening) → (isTaken reading (opening .kind) (opening .channel) ≡ true → opening .header ≡ 0x18) → openedAt container reading c opening ≡ openedAt container other c opening
+  unfolding openedAt
+  same-opened opening h = by-taken (isTaken reading (opening .kind) (opening .channel)) refl
+    where
+      by-taken : (t : Bool) → isTaken reading (opening .kind) (opening .channel) ≡ t → openedAt container reading c opening ≡ openedAt container other c opening
+      by-taken true e =
+          rw (e, sym (both-take (opening .kind) (opening .channel)) ∙ e)
+          (behind-0x18 container (reading .payloads) c opening (h e) ∙ sym (behind-0x18 container (other .payloads) c opening (h e)))
+      by-taken false e = rw (e, sym (both-take (opening .kind) (opening .channel)) ∙ e)
+
+pub ModesAgree : promised.ModesAgree
+unfolding chunkAt
+ModesAgree container reading other c same h = rw (same-opened container reading other c same (openingAt container c) h)

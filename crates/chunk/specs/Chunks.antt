@@ -6,7 +6,9 @@ use lib.ListN.{length}
 use lib.Dec.{ltb}
 use denote.Ref.{RefT, now}
 use Rattle.refusal.specs.declared.Cause.{Cause}
-use Rattle.refusal.specs.declared.Cause.the-variants.{RanOut, TooSmall}
+use Rattle.refusal.specs.declared.Cause.the-variants.{RanOut, TooSmall, ShortHeader}
+use Rattle.reading.specs.declared.PayloadMode.{PayloadMode}
+use Rattle.reading.specs.declared.PayloadMode.the-variants.{Original, AfterHeader}
 use Rattle.reading.specs.declared.Applied.{Applied}
 use Rattle.reading.specs.Choices.{takesChannel}
 use Rattle.part.specs.Parts.{partAt, IsPart, PartAt}
@@ -32,27 +34,38 @@ isTaken reading Audio channel = takesChannel (reading .audio) channel
 isTaken reading Other channel = false
 isTaken reading End channel = false
 
--- "next at c + 8 + block size. .. The payload starts at c + 0x20 whatever the header size says". n is the payload's length
-unfoldable pub chunkOf : ℕ → Opening → ℕ → Chunk
-chunkOf c opening n = record { start = c; kind = opening .kind; channel = opening .channel; «data_type» = opening .«data_type»; next = c + 8 + opening .block; payload = c + 0x20; len = n }
+-- "The payload starts at c + 0x20 whatever the header size says"; in the second mode, "payload from c + 8 + header size"
+abbrev pub offsetOf : PayloadMode → Opening → ℕ
+offsetOf Original opening = 0x20
+offsetOf AfterHeader opening = 8 + opening .header
+
+-- "17 header size below 0x18 in the new mode"
+abbrev pub isShort : PayloadMode → Opening → Bool
+isShort Original opening = false
+isShort AfterHeader opening = ltb (opening .header) 0x18
+
+-- "next at c + 8 + block size". The payload has n bytes, so many after the start
+unfoldable pub chunkOf : ℕ → Opening → ℕ → ℕ → Chunk
+chunkOf c opening offset n = record { start = c; kind = opening .kind; channel = opening .channel; «data_type» = opening .«data_type»; next = c + 8 + opening .block; payload = c + offset; len = n }
 
 -- "the start of the block being read"
 abbrev pub refusedAt : ℕ → Cause → ChunkStep
 refusedAt c why = Refused (record { cause = why; place = c })
 
--- a payload is "present in full (1)"
-unfoldable pub presentIn : List ℕ → Chunk → ChunkStep
-presentIn container chunk = cond (ltb (length container - chunk .payload) (chunk .len)) (refusedAt (chunk .start) RanOut) (Found chunk)
-
 -- "its length is block size - header - footer (9), present in full (1)."
-unfoldable pub takenAt : List ℕ → ℕ → Opening → ChunkStep
-takenAt container c opening =
+unfoldable pub heldAt : List ℕ → ℕ → Opening → ℕ → ChunkStep
+heldAt container c opening offset =
     cond (ltb (opening .block) (opening .header + opening .footer)) (refusedAt c TooSmall)
-    (presentIn container (chunkOf c opening (opening .block - (opening .header + opening .footer))))
+    (cond (ltb (length container) (c + offset + (opening .block - (opening .header + opening .footer)))) (refusedAt c RanOut)
+    (Found (chunkOf c opening offset (opening .block - (opening .header + opening .footer)))))
 
--- "others are skipped with no size check"; "payload length (0 if skipped)"
+-- "17 header size below 0x18 in the new mode for a payload that is not skipped, placed before 9"
+unfoldable pub takenAt : List ℕ → PayloadMode → ℕ → Opening → ChunkStep
+takenAt container mode c opening = cond (isShort mode opening) (refusedAt c ShortHeader) (heldAt container c opening (offsetOf mode opening))
+
+-- "others are skipped with no size check"; "payload length (0 if skipped)". A skipped payload is said to start at c + 0x20 in both modes: nothing asks its header size
 unfoldable pub openedAt : List ℕ → Applied → ℕ → Opening → ChunkStep
-openedAt container reading c opening = cond (isTaken reading (opening .kind) (opening .channel)) (takenAt container c opening) (Found (chunkOf c opening 0))
+openedAt container reading c opening = cond (isTaken reading (opening .kind) (opening .channel)) (takenAt container (reading .payloads) c opening) (Found (chunkOf c opening 0x20 0))
 
 -- "At c, fewer than 4 bytes left: clean end. .. 4 to 44 left: 1."
 unfoldable pub chunkAt : List ℕ → Applied → ℕ → ChunkStep

@@ -2,11 +2,13 @@
 use Prim.Native.Nat.{ℕ, _+_, _≤_}
 use mathlib.Core.Path.{_≡_}
 use mathlib.Core.List.{List}
+use mathlib.Core.Bool.{true}
 use lib.ListN.{length}
 use Rattle.reading.specs.declared.Applied.{Applied}
 use Rattle.chunk.specs.declared.Chunk.{Chunk}
 use Rattle.chunk.specs.declared.ChunkStep.the-variants.{Found}
-use Rattle.chunk.specs.Chunks.{chunkAt, payloadOf}
+use Rattle.chunk.specs.Openings.{openingAt}
+use Rattle.chunk.specs.Chunks.{isTaken, chunkAt, payloadOf}
 
 -- Its payload lies within the container, all of it.
 abbrev pub PayloadsLieWithin : Type 0
@@ -18,3 +20,11 @@ PayloadsLieWithin =
 abbrev pub NextLiesAfter : Type 0
 NextLiesAfter =
     (container : List ℕ) (reading : Applied) (c : ℕ) (chunk : Chunk) → chunkAt container reading c ≡ Found chunk → (chunk .start ≡ c) × (c + 8 ≤ chunk .next)
+
+-- Request 4: at header size 0x18 both payload modes agree. What stands at a place is the same in both, or refused alike, if the payload there is not taken or
+-- the header size is 0x18
+abbrev pub ModesAgree : Type 0
+ModesAgree =
+    (container : List ℕ) (reading other : Applied) (c : ℕ) → reading .audio ≡ other .audio
+    → (isTaken reading (openingAt container c .kind) (openingAt container c .channel) ≡ true → openingAt container c .header ≡ 0x18)
+    → chunkAt container reading c ≡ chunkAt container other c

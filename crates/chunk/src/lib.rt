@@ -4,8 +4,9 @@ ghost use mathlib.Core.Path.{_≡_};
 ghost use Prim.Native.Nat.{_+_, _≤_, _<_, _^_};
 ghost use lib.ListN.{length};
 ghost use Rattle.chunk.specs.Openings.{kindAt, openingAt};
-ghost use Rattle.chunk.specs.Chunks.{kindNumber, isTaken, chunkOf, refusedAt, takenAt, openedAt, chunkAt, PayloadOf, PayloadAt};
+ghost use Rattle.chunk.specs.Chunks.{kindNumber, isTaken, offsetOf, isShort, chunkOf, refusedAt, heldAt, takenAt, openedAt, chunkAt, PayloadOf, PayloadAt};
 use reading::Applied;
+use reading::PayloadMode;
 use refusal::Cause;
 use refusal::Refusal;
 
@@ -48,6 +49,12 @@ pub enum ChunkStep {
 
 // The bytes that every chunk has: as many as an end chunk needs.
 const OPENING: usize = 45;
+
+// The bytes of a chunk that its header size does not count.
+const UNCOUNTED: usize = 8;
+
+// The least header size of a payload that stands after its header.
+const LEAST_HEADER: u16 = 0x18;
 
 // The number of a kind.
 pub fn kind_number(kind: Kind) -> u8
@@ -122,13 +129,33 @@ fn is_taken(reading: Applied, kind: Kind, channel: u8) -> bool
     }
 }
 
-// The chunk of an opening at a place, with a payload of a length.
-fn chunk_of(place: usize, opening: Opening, len: usize) -> Chunk
-    requires { ⌜ place < 2 ^ 63 ⌝ }
-    ensures { λ r. ⌜ r ≡ chunkOf place opening len ⌝ }
+// How many bytes after a chunk's start its payload stands.
+fn offset_of(mode: PayloadMode, opening: Opening) -> usize
+    ensures { λ r. ⌜ (r ≡ offsetOf mode opening) × (r < 2 ^ 32) ⌝ }
 {
-    let next = place + 8 + opening.block as usize;
-    let payload = place + signature::INSIDE;
+    match mode {
+        PayloadMode::Original => signature::INSIDE,
+        PayloadMode::AfterHeader => UNCOUNTED + opening.header as usize,
+    }
+}
+
+// Whether the header is too short for a payload after it.
+fn is_short(mode: PayloadMode, opening: Opening) -> bool
+    ensures { λ r. ⌜ r ≡ isShort mode opening ⌝ }
+{
+    match mode {
+        PayloadMode::Original => false,
+        PayloadMode::AfterHeader => opening.header < LEAST_HEADER,
+    }
+}
+
+// The chunk of an opening at a place, with a payload of a length so many bytes on.
+fn chunk_of(place: usize, opening: Opening, offset: usize, len: usize) -> Chunk
+    requires { ⌜ (place < 2 ^ 63) × (offset < 2 ^ 32) ⌝ }
+    ensures { λ r. ⌜ r ≡ chunkOf place opening offset len ⌝ }
+{
+    let next = place + UNCOUNTED + opening.block as usize;
+    let payload = place + offset;
     let kind = opening.kind;
     Chunk {
         start: place,
@@ -148,21 +175,32 @@ fn refused(cause: Cause, place: usize) -> ChunkStep
     ChunkStep::Refused(Refusal { cause, place })
 }
 
-// The chunk at a place, whose payload is taken: it has to be there in full.
-fn taken_at(container: &[u8], place: usize, opening: Opening) -> ChunkStep
-    requires { ⌜ place < 2 ^ 63 ⌝ }
-    ensures { λ r. ⌜ r ≡ takenAt (now (container .entry)) place opening ⌝ }
+// The chunk at a place, whose payload stands so many bytes on: it has to be there in full.
+fn held_at(container: &[u8], place: usize, opening: Opening, offset: usize) -> ChunkStep
+    requires { ⌜ (place < 2 ^ 63) × (offset < 2 ^ 32) ⌝ }
+    ensures { λ r. ⌜ r ≡ heldAt (now (container .entry)) place opening offset ⌝ }
 {
     let block = opening.block as usize;
     let spare = opening.header as usize + opening.footer as usize;
     if block < spare {
         return refused(Cause::TooSmall, place);
     }
-    let chunk = chunk_of(place, opening, block - spare);
-    if word::left_from(container, chunk.payload) < chunk.len {
+    let len = block - spare;
+    if container.len() < place + offset + len {
         return refused(Cause::RanOut, place);
     }
-    ChunkStep::Found(chunk)
+    ChunkStep::Found(chunk_of(place, opening, offset, len))
+}
+
+// The chunk at a place, whose payload is taken.
+fn taken_at(container: &[u8], place: usize, mode: PayloadMode, opening: Opening) -> ChunkStep
+    requires { ⌜ place < 2 ^ 63 ⌝ }
+    ensures { λ r. ⌜ r ≡ takenAt (now (container .entry)) mode place opening ⌝ }
+{
+    if is_short(mode, opening) {
+        return refused(Cause::ShortHeader, place);
+    }
+    held_at(container, place, opening, offset_of(mode, opening))
 }
 
 // The chunk at a place, by its opening: a payload that is not taken is not looked at.
@@ -172,9 +210,10 @@ fn opened_at(container: &[u8], place: usize, reading: Applied, opening: Opening)
 {
     let kind = opening.kind;
     if is_taken(reading, kind, opening.channel) {
-        return taken_at(container, place, opening);
+        let mode = reading.payloads;
+        return taken_at(container, place, mode, opening);
     }
-    ChunkStep::Found(chunk_of(place, opening, 0))
+    ChunkStep::Found(chunk_of(place, opening, signature::INSIDE, 0))
 }
 
 // The chunk at a place, or that the chunks end there, or why it is refused. `reading` is how this film is read: where the

@@ -3,6 +3,7 @@
 use libc::STDOUT_FILENO;
 use reading::Applied;
 use reading::AudioChoice;
+use reading::PayloadMode;
 
 // Stores bytes at the start of a part, as far as it goes.
 fn copy(part: &mut [u8], bytes: &[u8]) {
@@ -195,6 +196,7 @@ fn wrong_chunks() {
 fn payload_at(film: &[u8], place: usize) {
     let reading = Applied {
         audio: AudioChoice::Chosen,
+        payloads: PayloadMode::Original,
     };
     let payload = chunk::read_payload(film, place, reading);
     io::print_decimal(STDOUT_FILENO, place as u64);

@@ -34,7 +34,7 @@ planOf room asked s = record { reply = listReply (listedIn room s); records = re
 
 -- a record and the next place; nothing of use where there is no chunk
 abbrev pub noRecord : RecordStep
-noRecord = record { made = record { start = 0; kind = 0; «data_type» = 0; channel = 0; len = 0 }; next = 0 }
+noRecord = record { made = record { start = 0; kind = 0; «data_type» = 0; channel = 0; offset = 0; len = 0 }; next = 0 }
 
 abbrev pub stepOf : ChunkStep → RecordStep
 stepOf Over = noRecord

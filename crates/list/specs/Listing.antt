@@ -1,5 +1,5 @@
 -- Rules C: listing. It "fills a lent list of chunk records: start, kind, data type, payload length (0 if skipped)."
-use Prim.Native.Nat.{ℕ}
+use Prim.Native.Nat.{ℕ, _-_}
 use mathlib.Core.Path.{_≡_}
 use mathlib.Core.List.{List, [], map}
 use mathlib.Core.Bool.{cond}
@@ -19,9 +19,10 @@ use Rattle.list.specs.declared.Listed.{Listed}
 use Rattle.list.specs.declared.Listed.the-variants.{Count, Refused}
 use Rattle.list.specs.declared.ListReply.{ListReply}
 
--- "start, kind, data type, payload length (0 if skipped)"; byte 12, the channel: "Add it to the chunk record"
+-- "start, kind, data type, payload length (0 if skipped)"; byte 12, the channel: "Add it to the chunk record"; where
+-- the payload starts: it depends on the mode
 abbrev pub recordOf : Chunk → ChunkRecord
-recordOf chunk = record { start = chunk .start; kind = kindNumber (chunk .kind); «data_type» = chunk .«data_type»; channel = chunk .channel; len = chunk .len }
+recordOf chunk = record { start = chunk .start; kind = kindNumber (chunk .kind); «data_type» = chunk .«data_type»; channel = chunk .channel; offset = chunk .payload - chunk .start; len = chunk .len }
 
 -- 13, "chunk list too short", with the count, at 0; or the count
 abbrev pub countedIn : ℕ → ℕ → Listed

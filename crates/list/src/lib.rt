@@ -1,6 +1,7 @@
 // A listing of a film's chunks: what it answers, and each chunk as a record of plain numbers. Rules C.
 // No function of the Rust lists chunks; its `read_chunk_header` reads one. `usm::usm_list` fills a lent list by what is here.
 ghost use mathlib.Core.Path.{_≡_};
+ghost use Prim.Native.Nat.{_-_, _≤_, _<_, _^_};
 ghost use Rattle.film.specs.Films.{surveyOf, filmOf};
 ghost use Rattle.reading.specs.Choices.{readingBy};
 ghost use Rattle.list.specs.Listing.{countedIn, listedIn, listReply, recordOf};
@@ -14,13 +15,15 @@ use reading::ReadingBytes;
 use refusal::Cause;
 use refusal::Refusal;
 
-// A chunk as plain numbers: its start, the number of its kind, its data type, its channel, its payload's length.
+// A chunk as plain numbers: its start, the number of its kind, its data type, its channel, how many bytes after its start
+// its payload stands, and its payload's length.
 #[repr(C)]
 pub struct ChunkRecord {
     pub start: usize,
     pub kind: u8,
     pub data_type: u8,
     pub channel: u8,
+    pub offset: u32,
     pub len: usize,
 }
 
@@ -166,14 +169,17 @@ pub fn list_plan(container: &[u8], asked: ReadingBytes, room: usize) -> Plan
 
 // The record of a chunk.
 fn record_of(chunk: Chunk) -> ChunkRecord
+    requires { ⌜ (chunk .start ≤ chunk .payload) × (chunk .payload - chunk .start < 2 ^ 32) ⌝ }
     ensures { λ r. ⌜ r ≡ recordOf chunk ⌝ }
 {
     let kind = chunk.kind;
+    let offset = (chunk.payload - chunk.start) as u32;
     ChunkRecord {
         start: chunk.start,
         kind: chunk::kind_number(kind),
         data_type: chunk.data_type,
         channel: chunk.channel,
+        offset,
         len: chunk.len,
     }
 }
@@ -188,6 +194,7 @@ fn no_record() -> RecordStep
             kind: 0,
             data_type: 0,
             channel: 0,
+            offset: 0,
             len: 0,
         },
         next: 0,

@@ -1,8 +1,8 @@
 // How a container is read: what a caller asks for, and what of it applies to one film. Both go by value.
-// Rules C: audio is taken "if present and chosen". request 2: none, all, or one channel. request 5: how a table's columns are
-// read.
+// Rules C: audio is taken "if present and chosen". request 2: none, all, or one channel. request 4: where a payload
+// starts. request 5: how a table's columns are read.
 ghost use mathlib.Core.Path.{_≡_};
-ghost use Rattle.reading.specs.Choices.{takesChannel, asOriginal, choiceBy, modeBy, readingBy, appliedTo};
+ghost use Rattle.reading.specs.Choices.{takesChannel, asOriginal, choiceBy, payloadsBy, modeBy, readingBy, appliedTo};
 
 // Which audio payloads are asked for: none, those of every channel, or those of one.
 pub enum AudioChoice {
@@ -19,19 +19,28 @@ pub enum TableMode {
     ZeroColumns,
 }
 
+// Where the payloads of chunks start.
+pub enum PayloadMode {
+    // As the Rust reads them: 0x20 bytes into the chunk, whatever its header size says.
+    Original,
+    // Where the header ends, by its size.
+    AfterHeader,
+}
+
 // How to read, as a caller asks.
 pub struct Reading {
     pub audio: AudioChoice,
+    pub payloads: PayloadMode,
     pub tables: TableMode,
 }
 
 // How one film is read: what was asked, as far as the film has it.
 pub struct Applied {
     pub audio: AudioChoice,
+    pub payloads: PayloadMode,
 }
 
-// How to read, as C asks. `channel` counts where `audio` asks for one. `payloads` is not looked at; it keeps room for a
-// choice to come.
+// How to read, as C asks. `channel` counts where `audio` asks for one.
 #[repr(C)]
 pub struct ReadingBytes {
     pub audio: u8,
@@ -57,6 +66,7 @@ pub fn as_original(audio: AudioChoice) -> Reading
 {
     Reading {
         audio,
+        payloads: PayloadMode::Original,
         tables: TableMode::Original,
     }
 }
@@ -72,6 +82,16 @@ fn choice_by(number: u8, channel: u8) -> AudioChoice
         return AudioChoice::Channel(channel);
     }
     AudioChoice::Chosen
+}
+
+// The payload mode by a number: after the header by 1, the Rust's mode by every other number.
+fn payloads_by(number: u8) -> PayloadMode
+    ensures { λ r. ⌜ r ≡ payloadsBy number ⌝ }
+{
+    if number == 1 {
+        return PayloadMode::AfterHeader;
+    }
+    PayloadMode::Original
 }
 
 // The table mode by a number: zero columns by 1, the Rust's mode by every other number.
@@ -90,6 +110,7 @@ pub fn reading_by(asked: ReadingBytes) -> Reading
 {
     Reading {
         audio: choice_by(asked.audio, asked.channel),
+        payloads: payloads_by(asked.payloads),
         tables: mode_by(asked.tables),
     }
 }
@@ -99,10 +120,12 @@ pub fn applied_to(present: bool, reading: Reading) -> Applied
     ensures { λ r. ⌜ r ≡ appliedTo present reading ⌝ }
 {
     let audio = reading.audio;
+    let payloads = reading.payloads;
     if present {
-        return Applied { audio };
+        return Applied { audio, payloads };
     }
     Applied {
         audio: AudioChoice::NotChosen,
+        payloads,
     }
 }

@@ -15,6 +15,8 @@ use Rattle.laws.proofs.SpliceLaws.{at-right}
 use Rattle.word.specs.Numbers.{be32}
 use Rattle.signature.specs.Signatures.{contentsEnd, sameBytes, standsAt}
 use Rattle.part.specs.Parts.{partAt}
+use Rattle.reading.specs.declared.PayloadMode.{PayloadMode}
+use Rattle.reading.specs.declared.PayloadMode.the-variants.{Original, AfterHeader}
 use Rattle.reading.specs.declared.Applied.{Applied}
 use Rattle.reading.specs.Choices.{takesChannel}
 use Rattle.chunk.specs.declared.Kind.{Kind}
@@ -22,7 +24,7 @@ use Rattle.chunk.specs.declared.Kind.the-variants as kind
 use Rattle.chunk.specs.declared.Opening.{Opening}
 use Rattle.chunk.specs.declared.ChunkStep.the-variants.{Found}
 use Rattle.chunk.specs.Openings.{kindAt, openingAt}
-use Rattle.chunk.specs.Chunks.{chunkOf, presentIn, takenAt, openedAt, chunkAt}
+use Rattle.chunk.specs.Chunks.{offsetOf, isShort, chunkOf, heldAt, takenAt, openedAt, chunkAt}
 use Rattle.unmasking.specs.declared.Unmasking.{Unmasking}
 use Rattle.film_blocks.specs.Blocks.{zeros, padding, headOf, blockOf}
 use Rattle.film_blocks.specs.Tables.{markerOf}
@@ -168,18 +170,23 @@ unfolding kindAt
 stream-kind Video s p e l = rw (e, l)
 stream-kind Audio s p e l = rw (e, l)
 
-taken-is : (s : List ℕ) (c n : ℕ) (kind : Kind) → c + blockSize n ≤ length s → takenAt s c (opened kind n) ≡ Found (chunkIn c (record { kind = kind; len = n; size = blockSize n }))
-unfolding takenAt presentIn chunkOf
-taken-is s c n kind h =
+-- the header size is 0x18, so both payload modes agree
+as-written : (mode : PayloadMode) (kind : Kind) (n : ℕ) → (isShort mode (opened kind n) ≡ false) × (offsetOf mode (opened kind n) ≡ 0x20)
+as-written Original kind n = (refl, refl)
+as-written AfterHeader kind n = (refl, refl)
+
+taken-is : (s : List ℕ) (mode : PayloadMode) (c n : ℕ) (kind : Kind) → c + blockSize n ≤ length s → takenAt s mode c (opened kind n) ≡ Found (chunkIn c (record { kind = kind; len = n; size = blockSize n }))
+unfolding takenAt heldAt chunkOf
+taken-is s mode c n kind h =
     let m : 0x18 + n + padding n - (0x18 + padding n) ≡ n = omega arith in
     let next : c + 8 + (0x18 + n + padding n) ≡ c + blockSize n = omega arith in
-    rw (le-ltb (0x18 + n + padding n) (0x18 + padding n) (omega arith), m, le-ltb (length s - (c + 0x20)) n (omega arith), next)
+    rw (as-written mode kind n .0, as-written mode kind n .1, le-ltb (0x18 + n + padding n) (0x18 + padding n) (omega arith), m, le-ltb (length s) (c + 0x20 + n) (omega arith), next)
 
 opened-is : (stream : Stream) (s : List ℕ) (c n : ℕ) (applied : Applied) → Takes applied stream → c + blockSize n ≤ length s
     → openedAt s applied c (opened (kindFor stream) n) ≡ Found (chunkIn c (record { kind = kindFor stream; len = n; size = blockSize n }))
 unfolding openedAt
-opened-is Video s c n applied t h = taken-is s c n kind.Video h
-opened-is Audio s c n applied t h = rw t (taken-is s c n kind.Audio h)
+opened-is Video s c n applied t h = taken-is s (applied .payloads) c n kind.Video h
+opened-is Audio s c n applied t h = rw t (taken-is s (applied .payloads) c n kind.Audio h)
 
 module _ (by : Unmasking) (stream : Stream) (payload more : List ℕ) {s : List ℕ} {p : ℕ} (f : From s p (block (lettersOf stream) (storedAs by stream payload) more))
     (some : 0 < length payload) (few : length payload ≤ 0x10000) where

@@ -31,6 +31,7 @@ pub(crate) fn list_of(container: &[u8], reading: ReadingBytes) -> Filled {
         kind: 0,
         data_type: 0,
         channel: 0,
+        offset: 0,
         len: 0,
     };
     fill(container, reading, blank)

@@ -11,7 +11,8 @@ use Rattle.chunk.specs.declared.ChunkStep.{ChunkStep}
 use Rattle.chunk.specs.declared.ChunkStep.the-variants.{Over, Found, Refused}
 use Rattle.chunk.specs.Chunks.{chunkAt}
 use Rattle.chunk.specs.Channels.{only}
-use Rattle.chunk.proofs.ChannelLaws.{OneOf, only-found, only-over, only-next}
+use Rattle.chunk.proofs.ChannelLaws.{OneOf, only-found, only-next}
+use Rattle.chunk.proofs.FoundLaws.{over-in-every}
 use Rattle.walk.specs.Walks.{Walk, clean, goOn, onto, walkFor, walkFrom}
 
 module _ (chosen : ℕ) (container : List ℕ) (all one : Applied) (narrow : OneOf chosen all one) where
@@ -22,7 +23,7 @@ module _ (chosen : ℕ) (container : List ℕ) (all one : Applied) (narrow : One
   only-step : (n c : ℕ) → ((d : ℕ) → walkFor container all n d .ending ≡ clean → walkFor container one n d ≡ narrowed (walkFor container all n d .chunks))
       → (step : ChunkStep) → chunkAt container all c ≡ step → goOn step (walkFor container all n) .ending ≡ clean
       → goOn (chunkAt container one c) (walkFor container one n) ≡ narrowed (goOn step (walkFor container all n) .chunks)
-  only-step n c ih Over e h = rw (only-over chosen container all one narrow c e)
+  only-step n c ih Over e h = rw (over-in-every container all one c e)
   only-step n c ih (Found chunk) e h =
       rw (only-found chosen container all one narrow c chunk e)
       (ap (λ (d : ℕ). onto (only chosen chunk) (walkFor container one n d)) (only-next chosen chunk) ∙ ap (onto (only chosen chunk)) (ih (chunk .next) h))

@@ -1,6 +1,7 @@
 pub mod WalkLaws
 pub mod LoopLaws
 pub mod ChannelLaws
+pub mod ModeLaws
 pub mod SumLaws
 pub mod PutLaws
 pub mod OneAnswer

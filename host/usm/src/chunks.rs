@@ -4,9 +4,6 @@ use std::fmt;
 
 use crate::{Reading, Refusal, ffi};
 
-/// Where a chunk's payload stands, from its start.
-const INSIDE: usize = 0x20;
-
 /// The chunks of a film, in their order. It holds 24 bytes for each.
 #[derive(Clone, Debug)]
 pub struct Chunks<'a> {
@@ -146,7 +143,7 @@ fn chunk<'a>(film: &'a [u8], record: &ffi::Chunk) -> Chunk<'a> {
         data_type: record.data_type,
         letters: [bytes[0], bytes[1], bytes[2], bytes[3]],
         channel: record.channel,
-        payload: &bytes[INSIDE..][..record.length],
+        payload: &bytes[record.offset as usize..][..record.length],
     }
 }
 

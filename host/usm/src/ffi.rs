@@ -71,6 +71,7 @@ pub struct Chunk {
     pub kind: u8,
     pub data_type: u8,
     pub channel: u8,
+    pub offset: u32,
     pub length: usize,
 }
 

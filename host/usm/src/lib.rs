@@ -50,7 +50,7 @@ pub use film::{AudioKind, Film, Outline, Track, VideoKind, extract, extract_into
 pub use header::{HeaderTable, header_tables};
 pub use masks::{KeyTable, Stream, key_table, mask, unmask};
 pub use pack::{Streams, pack, pack_into, packed_size};
-pub use reading::{Audio, Reading};
+pub use reading::{Audio, Payloads, Reading};
 pub use refusal::{Reason, Refusal};
 pub use tables::{Cell, Column, Row, Table, table};
 

@@ -2,7 +2,7 @@
 
 use crate::ffi;
 
-/// How a film is read. The default takes all audio.
+/// How a film is read. The default takes all audio, and payloads from where the original takes them.
 ///
 /// ```
 /// use usm::{Audio, Reading};
@@ -15,6 +15,7 @@ use crate::ffi;
 #[non_exhaustive]
 pub struct Reading {
     pub audio: Audio,
+    pub payloads: Payloads,
 }
 
 /// Which audio is taken. What is not taken is skipped unchecked, so a film may be accepted without audio and refused
@@ -30,10 +31,26 @@ pub enum Audio {
     None,
 }
 
+/// Where the payloads of chunks start. Both are the same where every header size is 0x18.
+#[derive(Clone, Copy, PartialEq, Eq, Hash, Debug, Default)]
+#[non_exhaustive]
+pub enum Payloads {
+    /// As the original reads them: 0x20 bytes into the chunk, whatever its header size says.
+    #[default]
+    Original,
+    /// Where the header ends. One that is shorter than 0x18 is refused by 17.
+    AfterHeader,
+}
+
 impl Reading {
     /// The same, with another choice of audio.
     pub fn with_audio(self, audio: Audio) -> Reading {
-        Reading { audio }
+        Reading { audio, ..self }
+    }
+
+    /// The same, with payloads from another place on.
+    pub fn with_payloads(self, payloads: Payloads) -> Reading {
+        Reading { payloads, ..self }
     }
 
     pub(crate) fn for_c(self) -> ffi::Reading {
@@ -42,6 +59,6 @@ impl Reading {
             Audio::All => (1, 0),
             Audio::Channel(channel) => (2, channel),
         };
-        ffi::Reading { audio, channel, payloads: 0, tables: 0 }
+        ffi::Reading { audio, channel, payloads: (self.payloads == Payloads::AfterHeader).into(), tables: 0 }
     }
 }

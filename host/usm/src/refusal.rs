@@ -53,6 +53,8 @@ pub enum Reason {
     TooLong,
     /// 15: a payload to be written begins with `#CONTENTS END`, and would be skipped where the film is read.
     MarkedPayload,
+    /// 17: a header size below 0x18, with [`Payloads::AfterHeader`](crate::Payloads::AfterHeader).
+    ShortHeader,
     /// 23: an audio codec without audio.
     CodecAlone,
     /// Another number than those above. The functions of this crate give none.
@@ -91,6 +93,7 @@ impl Reason {
             10 => Reason::TooMany,
             11 => Reason::TooLong,
             15 => Reason::MarkedPayload,
+            17 => Reason::ShortHeader,
             23 => Reason::CodecAlone,
             number => Reason::Other(number),
         }
@@ -112,6 +115,7 @@ impl fmt::Display for Reason {
             Reason::TooMany => f.write_str("over 64 columns or 256 rows in a table"),
             Reason::TooLong => f.write_str("longer than 1,073,741,824 bytes"),
             Reason::MarkedPayload => f.write_str("a payload that begins with #CONTENTS END"),
+            Reason::ShortHeader => f.write_str("a header that is too short"),
             Reason::CodecAlone => f.write_str("an audio codec without audio"),
             Reason::Other(number) => write!(f, "reason {number}"),
         }

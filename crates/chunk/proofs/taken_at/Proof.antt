@@ -1,60 +1,30 @@
--- `chunk::taken_at` meets its contract: the tests on the sizes pick the case of `takenAt`. Assumes nothing.
-use mathlib.Core.Path.{_∙_}
-use native.Mathlib.Omega.{arith}
-use Rattle.chunk.proofs.CaseLaws.{too-small, ran-out, present}
+-- `chunk::taken_at` meets its contract: a header that is too short is refused first. Assumes nothing.
+use mathlib.Core.Path.{sym, _∙_}
+use Rattle.chunk.proofs.CaseLaws.{short, held}
 use borrow.Author.Needs.{needs}
 use Rattle.chunk.proofs.taken_at.Statement.{statement}
 use Rattle.chunk.proofs.taken_at.Tie as tie
 
-cast-block : tie.Need-cast-block
-cast-block c = search needs
-
-cast-spare : tie.Need-cast-spare
-cast-spare c = search needs
-
-cast-spare-2 : tie.Need-cast-spare-2
-cast-spare-2 c = search needs
-
-add-spare : tie.Need-add-spare
-add-spare c = search needs
+is-short-requires : tie.Need-is-short-requires
+is-short-requires c κs = search needs
 
 refused-requires : tie.Need-refused-requires
 refused-requires c κs = search needs
 
 returns : tie.Need-returns
-returns c = c .refused .ensures ∙ too-small _ _ _ (c .before .if1 .taken)
+returns c = c .refused .ensures ∙ short _ _ _ _ (sym (c .before .before .is-short .ensures) ∙ c .before .if1 .taken)
 
-chunk-of-requires : tie.Need-chunk-of-requires
-chunk-of-requires c κs = search needs
+offset-of-requires : tie.Need-offset-of-requires
+offset-of-requires c κs = search needs
 
-left-from-requires : tie.Need-left-from-requires
-left-from-requires c κs = search needs
-
-refused-requires-2 : tie.Need-refused-requires-2
-refused-requires-2 c κs = search needs
+held-at-requires : tie.Need-held-at-requires
+held-at-requires c κs = search needs
 
 returns-2 : tie.Need-returns-2
 returns-2 c =
-    let made = c .before .before .before .before in
-    c .refused2 .ensures ∙ ran-out _ _ _ (made .before .if1 .left) _ (made .chunk-of .ensures) (omega arith)
-
-returns-3 : tie.Need-returns-3
-returns-3 c =
-    let made = c .before .before .before in
-    present _ _ _ (made .before .if1 .left) _ (made .chunk-of .ensures) (omega arith)
+    let test = c .before .before in
+    c .held-at .ensures ∙ held _ _ _ _ (sym (test .before .is-short .ensures) ∙ test .if1 .left) _ (c .before .offset-of .ensures .0)
 
 pub taken-at-spec : {M : Type 1} → statement M
 taken-at-spec =
-    tie.close
-    (tie.spec
-    cast-block
-    cast-spare
-    cast-spare-2
-    add-spare
-    refused-requires
-    returns
-    chunk-of-requires
-    left-from-requires
-    refused-requires-2
-    returns-2
-    returns-3)
+    tie.close (tie.spec is-short-requires refused-requires returns offset-of-requires held-at-requires returns-2)
