@@ -106,7 +106,7 @@ void usm_mask_audio(uint64_t key, uint8_t *payload, size_t len);
 #define USM_TOO_LONG 11       /* a container of over USM_CONTAINER_BYTES */
 #define USM_SHORT_OUTPUT 12   /* the video or the audio output is too short */
 #define USM_SHORT_LIST 13     /* the chunk list is too short */
-#define USM_OVERSIZED 14      /* both streams together exceed the container: it cannot occur (proved) */
+/* 14: struck, cannot occur. Both streams together never exceed the container (proved). No other reason gets the number. */
 #define USM_MARKED_PAYLOAD 15 /* a payload that would be written begins with the end marker */
 #define USM_SHORT_ROOM 16     /* the output is too short for what would be written */
 #define USM_SHORT_HEADER 17   /* a header size below 0x18, where payloads stand after their headers */
@@ -195,8 +195,6 @@ static inline const char *usm_reason(uint8_t number)
         return "the video or the audio output is too short";
     case USM_SHORT_LIST:
         return "the chunk list is too short";
-    case USM_OVERSIZED:
-        return "streams longer than the film";
     case USM_MARKED_PAYLOAD:
         return "a payload begins with the end marker";
     case USM_SHORT_ROOM:
@@ -320,8 +318,8 @@ struct usm_film_reply {
  * and those of audio that is taken into the output `audio`. Bytes past a stream are unchanged. Where
  * one output is too short neither is written, and the reply has both sizes: lend both with length 0
  * to learn them (a film whose streams are both empty is accepted then, with sizes 0). Both streams
- * together are never longer than the container (proved), so an output of its length is always long
- * enough.
+ * together are never longer than the container, for every reading (proved), so outputs of its length
+ * are always long enough: lend both so, and USM_SHORT_OUTPUT cannot occur.
  *
  * Without a key the streams are as stored. With one, payloads of data type 0 are unmasked, those of
  * audio only where the audio codec is ADX, 2. The key changes nothing but the bytes of the streams

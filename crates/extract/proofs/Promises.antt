@@ -8,7 +8,7 @@ use native.Mathlib.Omega.{arith}
 use lib.ListN.{length}
 use lib.Bits.{bitXor, xor-self}
 use lib.Dec.{leb, eqb}
-use borrow.Author.Tests.{leb-true, leb-false}
+use borrow.Author.Tests.{leb-true, leb-false, le-ltb}
 use Rattle.laws.specs.Lists.{at}
 use Rattle.laws.proofs.OneAnswer.{no-second-answer}
 use Rattle.reading.specs.declared.AudioChoice.the-variants.{Chosen}
@@ -23,7 +23,6 @@ use Rattle.mask.specs.Promises.{apart}
 use Rattle.mask.proofs.Promises.{ShortVideoStays, VideoDiffersByD, AudioDiffersByD}
 use Rattle.chunk.specs.Chunks.{payloadOf}
 use Rattle.walk.specs.Walks.{walkFrom}
-use Rattle.walk.proofs.Promises.{SizesFitWhatIsLeft}
 use Rattle.unmasking.specs.declared.Key.the-variants.{Given}
 use Rattle.unmasking.specs.declared.Unmasking.{Unmasking}
 use Rattle.unmasking.specs.Unmasking.{isAdx, unmaskingOf}
@@ -38,12 +37,12 @@ use Rattle.extract.specs.Promises as promised
 use Rattle.extract.specs.Promises.{SameFrom}
 use Rattle.extract.proofs.StreamLaws.{videoUnder, audioUnder, stream-length}
 use Rattle.extract.proofs.ChannelLaws.{video-stays, audio-is-its-pieces, sum-as, all-channelled, channels-sum}
-use Rattle.extract.proofs.AnswerLaws.{its-film, its-sizes}
+use Rattle.extract.proofs.AnswerLaws.{its-film, its-sizes, sizes-within}
 use Rattle.extract.proofs.ResultLaws.{stays-past, both-hold, video-at, audio-at}
 
 pub NoKeyChangesTheAnswer : promised.NoKeyChangesTheAnswer
 NoKeyChangesTheAnswer container reading key key′ video audio video′ audio′ r r′ videoAfter audioAfter videoAfter′ audioAfter′ v a e e′ =
-    e .0 ∙ ap₂ (λ (m n : ℕ). extractedIn (length container) m n (surveyOf (filmOf container reading))) v a ∙ sym (e′ .0)
+    e .0 ∙ ap₂ (λ (m n : ℕ). extractedIn m n (surveyOf (filmOf container reading))) v a ∙ sym (e′ .0)
 
 pub RefusalsLeaveBothOutputs : promised.RefusalsLeaveBothOutputs
 RefusalsLeaveBothOutputs container reading key video audio videoAfter audioAfter refusal e = (e .1, e .2)
@@ -56,9 +55,12 @@ SizesAreTheStreams container reading key header applied count video audio e =
     (stream-length (videoUnder by) container applied (header .start) ∙ sizes .0, stream-length (audioUnder by) container applied (header .start) ∙ sizes .1)
 
 pub SizesFitTheContainer : promised.SizesFitTheContainer
-SizesFitTheContainer container reading header applied count video audio e =
-    let sizes = its-sizes container reading header applied count video audio e in
-    omega (arith, sizes .0, sizes .1, SizesFitWhatIsLeft container applied (header .start))
+SizesFitTheContainer container reading header applied count video audio e = sizes-within container reading header applied count video audio e
+
+pub OutputsMayBeSizedByTheFile : promised.OutputsMayBeSizedByTheFile
+OutputsMayBeSizedByTheFile container reading key videoRoom audioRoom videoAfter audioAfter r header applied count video audio v a x e =
+    let fit = sizes-within container reading header applied count video audio e in
+    x .0 ∙ rw (e, le-ltb (length videoRoom) video (omega arith), le-ltb (length audioRoom) audio (omega arith))
 
 pub BytesPastTheStreamsStay : promised.BytesPastTheStreamsStay
 BytesPastTheStreamsStay container reading key video audio videoAfter audioAfter contents e = by-film (filmOf container reading) refl

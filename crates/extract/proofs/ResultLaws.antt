@@ -10,7 +10,7 @@ use lib.Seq.{sets, sets-eq, length-sets, drop-at}
 use lib.Dec.{ltb}
 use Rattle.laws.specs.Lists.{at}
 use Rattle.laws.proofs.SpliceLaws.{at-left, at-right}
-use Rattle.refusal.specs.declared.Cause.the-variants.{Oversized, ShortOutput}
+use Rattle.refusal.specs.declared.Cause.the-variants.{ShortOutput}
 use Rattle.reading.specs.declared.Reading.{Reading}
 use Rattle.reading.specs.declared.Applied.{Applied}
 use Rattle.chunk.specs.declared.Chunk.{Chunk}
@@ -27,7 +27,7 @@ use Rattle.extract.specs.Streams.{videoPart, audioPart, videoPiece, audi
 use Rattle.extract.specs.Extraction.{contentsOf, Extraction}
 use Rattle.extract.specs.Promises.{SameFrom}
 use Rattle.extract.proofs.StreamLaws.{Stream, pieceOf, videoUnder, audioUnder, joined-append, front-length, stream-length}
-use Rattle.extract.proofs.AnswerLaws.{both-long, both-passed, its-film}
+use Rattle.extract.proofs.AnswerLaws.{both-long, passed, its-film}
 
 -- bytes put at the front
 front : (out bytes : List ℕ) → length bytes ≤ length out → sets out 0 bytes ≡ bytes ++ drop (length bytes) out
@@ -92,11 +92,10 @@ module _ (container : List ℕ) (reading : Reading) (header : Header) (applied :
       let seen = videoSize chunks in
       let heard = audioSize chunks in
       let by = unmaskingOf key (header .«audio_codec») in
-      let passed = both-passed (ltb (length container) (seen + heard)) (ltb (length video) seen || ltb (length audio) heard) (record { cause = Oversized; place = 0 })
-      (record { cause = ShortOutput seen heard; place = 0 }) (contentsOf header seen heard) contents (rw f at (e .0)) in
-      let long = both-long (length video) seen (length audio) heard (passed .0) in
-      let v : seen ≡ contents .«video_size» = ap (λ (held : Contents). held .«video_size») (passed .1) in
-      let a : heard ≡ contents .«audio_size» = ap (λ (held : Contents). held .«audio_size») (passed .1) in (
+      let p = passed (ltb (length video) seen || ltb (length audio) heard) (record { cause = ShortOutput seen heard; place = 0 }) (contentsOf header seen heard) contents (rw f at (e .0)) in
+      let long = both-long (length video) seen (length audio) heard (p .0) in
+      let v : seen ≡ contents .«video_size» = ap (λ (held : Contents). held .«video_size») (p .1) in
+      let a : heard ≡ contents .«audio_size» = ap (λ (held : Contents). held .«audio_size») (p .1) in (
         record { long = its-length (videoUnder by) ∙ v; room = omega (arith, v, long .0); bytes = rw f at (e .1) },
         record { long = its-length (audioUnder by) ∙ a; room = omega (arith, a, long .1); bytes = rw f at (e .2) },
       )

@@ -27,7 +27,7 @@ use Rattle.extract.specs.declared.Contents.{Contents}
 use Rattle.extract.specs.declared.Extracted.{Extracted}
 use Rattle.extract.specs.declared.Extracted.the-variants as extracted
 use Rattle.extract.specs.Streams.{videoPart, audioPart, videoStream, audioStream, onChannel}
-use Rattle.extract.specs.Extraction.{videoOf, audioOf, Extraction}
+use Rattle.extract.specs.Extraction.{contentsOf, videoOf, audioOf, Extraction}
 
 -- "Over a container, no key and no lack of one changes a refusal, name, codec, size": two results that meet the contract on one container, into outputs of the same lengths, are equal
 abbrev pub NoKeyChangesTheAnswer : Type 0
@@ -49,12 +49,21 @@ SizesAreTheStreams =
     → surveyOf (filmOf container reading) ≡ survey.Film header applied count video audio
     → (length (videoOf container key (filmOf container reading)) ≡ video) × (length (audioOf container key (filmOf container reading)) ≡ audio)
 
--- "the two sizes together never exceed the container": 14 can't occur
+-- "the sizes of the two streams together never exceed the container, in both payload modes and for every channel choice": 14 cannot occur. It is part of
+-- extraction's contract; here it is said of what is known before an output is looked at, the sizes beside 12
 abbrev pub SizesFitTheContainer : Type 0
 SizesFitTheContainer =
     (container : List ℕ) (reading : Reading) (header : Header) (applied : Applied) (count video audio : ℕ)
     → surveyOf (filmOf container reading) ≡ survey.Film header applied count video audio
     → video + audio ≤ length container
+
+-- "so an integrator may size both outputs by the file": into outputs as long as the container no film is refused for its sizes
+abbrev pub OutputsMayBeSizedByTheFile : Type 0
+OutputsMayBeSizedByTheFile =
+    (container : List ℕ) (reading : Reading) (key : Key) (videoRoom audioRoom videoAfter audioAfter : List ℕ) (r : Extracted) (header : Header) (applied : Applied)
+    (count video audio : ℕ)
+    → length container ≤ length videoRoom → length container ≤ length audioRoom → Extraction container reading key videoRoom audioRoom r videoAfter audioAfter
+    → surveyOf (filmOf container reading) ≡ survey.Film header applied count video audio → r ≡ extracted.Film (contentsOf header video audio)
 
 -- as many bytes, and from a place on the same
 abbrev pub SameFrom : ℕ → List ℕ → List ℕ → Type 0

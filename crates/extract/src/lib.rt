@@ -129,16 +129,6 @@ fn write_streams(
     }
 }
 
-// Whether two sizes together exceed a third. No film's do; the test stays as long as the rules have number 14.
-fn exceed(some: usize, others: usize, whole: usize) -> bool
-    ensures { λ r. ⌜ r ≡ ltb whole (some + others) ⌝ }
-{
-    if whole < some {
-        return true;
-    }
-    whole - some < others
-}
-
 // Whether one of two outputs is shorter than what goes into it.
 fn lacks(video: usize, seen: usize, audio: usize, heard: usize) -> bool
     ensures { λ r. ⌜ r ≡ (ltb video seen || ltb audio heard) ⌝ }
@@ -193,9 +183,6 @@ pub fn extract(
             video: seen,
             audio: heard,
         } => {
-            if exceed(seen, heard, container.len()) {
-                return refused(Cause::Oversized);
-            }
             if lacks(video.len(), seen, audio.len(), heard) {
                 return refused(Cause::ShortOutput {
                     video: seen,

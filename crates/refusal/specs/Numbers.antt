@@ -2,7 +2,7 @@
 use Prim.Native.Nat.{ℕ}
 use Rattle.refusal.specs.declared.Beside.{Beside}
 use Rattle.refusal.specs.declared.Cause.{Cause}
-use Rattle.refusal.specs.declared.Cause.the-variants.{RanOut, NoFilm, NoTable, NoVideo, NoAudio, NoHeaderEnd, NoMetadataEnd, UnknownType, TooSmall, TooMany, TooLong, ShortOutput, ShortList, Oversized, MarkedPayload, ShortRoom, ShortHeader, UnknownStorage, Foreign, ManyAudios, NoBeginning, BadTenants, CodecAlone}
+use Rattle.refusal.specs.declared.Cause.the-variants.{RanOut, NoFilm, NoTable, NoVideo, NoAudio, NoHeaderEnd, NoMetadataEnd, UnknownType, TooSmall, TooMany, TooLong, ShortOutput, ShortList, MarkedPayload, ShortRoom, ShortHeader, UnknownStorage, Foreign, ManyAudios, NoBeginning, BadTenants, CodecAlone}
 
 abbrev pub numberOf : Cause → ℕ
 numberOf RanOut = 1
@@ -18,7 +18,6 @@ numberOf TooMany = 10
 numberOf TooLong = 11
 numberOf (ShortOutput video audio) = 12
 numberOf (ShortList count) = 13
-numberOf Oversized = 14
 numberOf MarkedPayload = 15
 numberOf (ShortRoom size) = 16
 numberOf ShortHeader = 17
@@ -47,7 +46,6 @@ besideOf TooMany = nothingBeside
 besideOf TooLong = nothingBeside
 besideOf (ShortOutput video audio) = record { «video_size» = video; «audio_size» = audio; count = 0; «unknown_type» = 0; size = 0 }
 besideOf (ShortList count) = record { «video_size» = 0; «audio_size» = 0; count = count; «unknown_type» = 0; size = 0 }
-besideOf Oversized = nothingBeside
 besideOf MarkedPayload = nothingBeside
 besideOf (ShortRoom size) = record { «video_size» = 0; «audio_size» = 0; count = 0; «unknown_type» = 0; size = size }
 besideOf ShortHeader = nothingBeside

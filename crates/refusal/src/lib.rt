@@ -2,7 +2,7 @@
 ghost use mathlib.Core.Path.{_≡_};
 ghost use Rattle.refusal.specs.Numbers.{numberOf, besideOf};
 
-// Why. The cases stand in the order of their numbers, 1 to 23.
+// Why. The cases stand in the order of their numbers, 1 to 23. 14 is struck: it cannot occur, and no other cause has it.
 pub enum Cause {
     // Bytes run out.
     RanOut,
@@ -30,8 +30,6 @@ pub enum Cause {
     ShortOutput { video: usize, audio: usize },
     // The chunk list is too short for this count.
     ShortList(usize),
-    // Both stream sizes together exceed the container's length.
-    Oversized,
     // A payload begins with the end marker.
     MarkedPayload,
     // The output is too short for this size.
@@ -76,7 +74,6 @@ pub fn number_of(cause: Cause) -> u8
         Cause::TooLong => 11,
         Cause::ShortOutput { video: _, audio: _ } => 12,
         Cause::ShortList(_) => 13,
-        Cause::Oversized => 14,
         Cause::MarkedPayload => 15,
         Cause::ShortRoom(_) => 16,
         Cause::ShortHeader => 17,
@@ -142,7 +139,6 @@ pub fn beside_of(cause: Cause) -> Beside
             unknown_type: 0,
             size: 0,
         },
-        Cause::Oversized => nothing,
         Cause::MarkedPayload => nothing,
         Cause::ShortRoom(size) => Beside {
             video_size: 0,

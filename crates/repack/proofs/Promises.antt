@@ -18,7 +18,7 @@ use Rattle.film.specs.declared.Surveyed.the-variants as survey
 use Rattle.extract.specs.declared.Extracted.{Extracted}
 use Rattle.extract.specs.declared.Extracted.the-variants as extracted
 use Rattle.extract.specs.Extraction.{extractedIn, extractedOf, videoOf, audioOf, leftBy, Extraction}
-use Rattle.extract.proofs.Promises.{SizesAreTheStreams, SizesFitTheContainer, OneFilmWhereBitsAgree}
+use Rattle.extract.proofs.Promises.{SizesAreTheStreams, OneFilmWhereBitsAgree}
 use Rattle.written.specs.declared.Written.the-variants.{Size}
 use Rattle.written.proofs.RoomLaws.{planned-so}
 use Rattle.film_plan.specs.declared.Packing.{Packing}
@@ -85,10 +85,9 @@ module _ (name video audio : List ℕ) (packing : Packing) (out out′ : List �
   pub gives-back : (seen heard seen′ heard′ : List ℕ) (r : Extracted) → length video ≤ length seen → length heardOf ≤ length heard
       → Extraction container reading (packing .key) seen heard r seen′ heard′ → GivesBack name video heardOf packing container seen heard r seen′ heard′
   gives-back seen heard seen′ heard′ r v a x =
-      let fit = SizesFitTheContainer container reading header (appliedTo (packing .audio) reading) (length found) (length video) (length heardOf) sizes in
       let e : r ≡ extracted.Film (contentsBack name video heardOf packing) =
-      x .0 ∙ ap (extractedIn (length container) (length seen) (length heard)) sizes
-      ∙ rw (le-ltb (length container) (length video + length heardOf) fit, le-ltb (length seen) (length video) v, le-ltb (length heard) (length heardOf) a) in (
+      x .0 ∙ ap (extractedIn (length seen) (length heard)) sizes
+      ∙ rw (le-ltb (length seen) (length video) v, le-ltb (length heard) (length heardOf) a) in (
         e,
         name-is name video heardOf packing size taken mpeg other silent reading chosen,
         x .1 ∙ ap₂ (λ (r : Extracted) (l : List ℕ). leftBy r seen l) e seen-is,

@@ -1,6 +1,6 @@
--- `extract::extract` meets its contract: the survey and two tests decide the answer, and only then are both streams written. Assumes nothing.
+-- `extract::extract` meets its contract: the survey and a test decide the answer, and only then are both streams written. Assumes nothing.
 use mathlib.Core.Path.{sym, _∙_}
-use Rattle.extract.proofs.AnswerLaws.{not-surveyed, oversized, short-output, both-fit, extracted-film}
+use Rattle.extract.proofs.AnswerLaws.{not-surveyed, short-output, both-fit, extracted-film}
 use borrow.Author.Needs.{needs}
 use Rattle.extract.proofs.extract.Statement.{statement}
 use Rattle.extract.proofs.extract.Tie as tie
@@ -11,32 +11,18 @@ survey-requires c κs = search needs
 enum-known-header : tie.Need-enum-known-header
 enum-known-header c = search needs
 
-exceed-requires : tie.Need-exceed-requires
-exceed-requires c κs = search needs
+lacks-requires : tie.Need-lacks-requires
+lacks-requires c κs = search needs
 
 refused-requires : tie.Need-refused-requires
 refused-requires c κs = search needs
 
 returns : tie.Need-returns
 returns c =
-    let test = c .before .before in
-    let film = test .before .before in
-    oversized _ _ _ _ _ _ _ _ _ _ (sym (film .before .before .survey .ensures) ∙ film .header .given .1) (sym (test .exceed .ensures) ∙ c .before .if1 .taken) _
-    (c .refused .ensures)
-
-lacks-requires : tie.Need-lacks-requires
-lacks-requires c κs = search needs
-
-refused-requires-2 : tie.Need-refused-requires-2
-refused-requires-2 c κs = search needs
-
-returns-2 : tie.Need-returns-2
-returns-2 c =
     let room = c .before .before in
-    let test = room .before .before in
-    let film = test .before .before in
-    short-output _ _ _ _ _ _ _ _ _ _ (sym (film .before .before .survey .ensures) ∙ film .header .given .1) (sym (test .exceed .ensures) ∙ room .before .if1 .left)
-    (sym (room .lacks .ensures) ∙ c .before .if2 .taken) _ (c .refused2 .ensures)
+    let film = room .before .before in
+    short-output _ _ _ _ _ _ _ _ _ _ (sym (film .before .before .survey .ensures) ∙ film .header .given .1)
+    (sym (room .lacks .ensures) ∙ c .before .if1 .taken) _ (c .refused .ensures)
 
 unmasking-of-requires : tie.Need-unmasking-of-requires
 unmasking-of-requires c κs = search needs
@@ -45,8 +31,8 @@ write-streams-requires : tie.Need-write-streams-requires
 write-streams-requires c κs =
     let tables = c .before .before in
     let room = tables .before .before in
-    let film = room .before .before .before .before in
-    both-fit _ _ _ _ _ _ _ (sym (film .before .before .survey .ensures) ∙ film .header .given .1) _ _ (sym (room .lacks .ensures) ∙ tables .before .if2 .left)
+    let film = room .before .before in
+    both-fit _ _ _ _ _ _ _ (sym (film .before .before .survey .ensures) ∙ film .header .given .1) _ _ (sym (room .lacks .ensures) ∙ tables .before .if1 .left)
 
 contents-of-requires : tie.Need-contents-of-requires
 contents-of-requires c κs = search needs
@@ -60,19 +46,17 @@ same-length c = search needs
 same-length-2 : tie.Need-same-length-2
 same-length-2 c = search needs
 
-returns-3 : tie.Need-returns-3
-returns-3 c =
+returns-2 : tie.Need-returns-2
+returns-2 c =
     let written = c .before .before .before .before .before in
     let tables = written .before .before .before in
     let room = tables .before .before in
-    let test = room .before .before in
-    let film = test .before .before in
-    extracted-film _ _ _ _ _ _ _ _ _ _ (sym (film .before .before .survey .ensures) ∙ film .header .given .1) (sym (test .exceed .ensures) ∙ room .before .if1 .left)
-    (sym (room .lacks .ensures) ∙ tables .before .if2 .left) _ (tables .unmasking-of .ensures) _ (c .contents-of .ensures) _ _ (written .write-streams .ensures .0)
-    (written .write-streams .ensures .1)
+    let film = room .before .before in
+    extracted-film _ _ _ _ _ _ _ _ _ _ (sym (film .before .before .survey .ensures) ∙ film .header .given .1) (sym (room .lacks .ensures) ∙ tables .before .if1 .left) _
+    (tables .unmasking-of .ensures) _ (c .contents-of .ensures) _ _ (written .write-streams .ensures .0) (written .write-streams .ensures .1)
 
-returns-4 : tie.Need-returns-4
-returns-4 c =
+returns-3 : tie.Need-returns-3
+returns-3 c =
     let refused = c .before in
     let surveyed = refused .before .before in
     not-surveyed _ _ (surveyed .before .before .before .before .args .key) _ _ _ (sym (surveyed .survey .ensures) ∙ refused .refusal .given .1)
@@ -83,17 +67,14 @@ extract-spec =
     (tie.spec
     survey-requires
     enum-known-header
-    exceed-requires
+    lacks-requires
     refused-requires
     returns
-    lacks-requires
-    refused-requires-2
-    returns-2
     unmasking-of-requires
     write-streams-requires
     contents-of-requires
     enum-known-refusal
     same-length
     same-length-2
-    returns-3
-    returns-4)
+    returns-2
+    returns-3)

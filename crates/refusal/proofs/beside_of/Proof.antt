@@ -47,11 +47,11 @@ enum-known-cause-3 c = search needs
 enum-told-11 : tie.Need-enum-told-11
 enum-told-11 c = search needs
 
-enum-told-12 : tie.Need-enum-told-12
-enum-told-12 c = search needs
-
 enum-known-cause-4 : tie.Need-enum-known-cause-4
 enum-known-cause-4 c = search needs
+
+enum-told-12 : tie.Need-enum-told-12
+enum-told-12 c = search needs
 
 enum-told-13 : tie.Need-enum-told-13
 enum-told-13 c = search needs
@@ -70,9 +70,6 @@ enum-told-17 c = search needs
 
 enum-told-18 : tie.Need-enum-told-18
 enum-told-18 c = search needs
-
-enum-told-19 : tie.Need-enum-told-19
-enum-told-19 c = search needs
 
 returns : tie.Need-returns
 returns c = sym (ap besideOf (c .enum-told .given .1))
@@ -117,10 +114,10 @@ returns-14 : tie.Need-returns-14
 returns-14 c = sym (ap besideOf (c .enum-told11 .given .1))
 
 returns-15 : tie.Need-returns-15
-returns-15 c = sym (ap besideOf (c .enum-told12 .given .1))
+returns-15 c = sym (ap besideOf (c .before .cause4 .given .1))
 
 returns-16 : tie.Need-returns-16
-returns-16 c = sym (ap besideOf (c .before .cause4 .given .1))
+returns-16 c = sym (ap besideOf (c .enum-told12 .given .1))
 
 returns-17 : tie.Need-returns-17
 returns-17 c = sym (ap besideOf (c .enum-told13 .given .1))
@@ -140,9 +137,6 @@ returns-21 c = sym (ap besideOf (c .enum-told17 .given .1))
 returns-22 : tie.Need-returns-22
 returns-22 c = sym (ap besideOf (c .enum-told18 .given .1))
 
-returns-23 : tie.Need-returns-23
-returns-23 c = sym (ap besideOf (c .enum-told19 .given .1))
-
 pub beside-of-spec : {M : Type 1} → statement M
 beside-of-spec =
     tie.close
@@ -161,15 +155,14 @@ beside-of-spec =
     enum-known-cause-2
     enum-known-cause-3
     enum-told-11
-    enum-told-12
     enum-known-cause-4
+    enum-told-12
     enum-told-13
     enum-told-14
     enum-told-15
     enum-told-16
     enum-told-17
     enum-told-18
-    enum-told-19
     returns
     returns-2
     returns-3
@@ -191,5 +184,4 @@ beside-of-spec =
     returns-19
     returns-20
     returns-21
-    returns-22
-    returns-23)
+    returns-22)
