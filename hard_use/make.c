@@ -236,9 +236,12 @@ static void add_any_chunk(struct made *made, struct chance *chance)
     made->len += len;
     if (once_in(chance, 10))
         header = below(chance, 40);
+    else if (once_in(chance, 8))
+        header = 24 + below(chance, 60);
     zeros = finish_block(made, start);
     put_number(made->bytes + start + 8, 2, header);
     put_number(made->bytes + start + 10, 2, zeros);
+    made->bytes[start + 12] = (uint8_t)below(chance, CHANNELS);
     made->bytes[start + 15] = TYPES[below(chance, COUNT(TYPES))];
 }
 

@@ -12,6 +12,9 @@
 #define MADE_BYTES 65536
 #define MADE_FIELDS 1024
 
+/* How many channels the chunks of a film that is made have, from 0 on. */
+#define CHANNELS 3
+
 /* Where a number stands that a reader goes by, and its bytes. */
 struct field {
     size_t at;

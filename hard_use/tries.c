@@ -141,8 +141,14 @@ static uint8_t choice_by_chance(void)
     return once_in(&chance, 3) ? 0 : once_in(&chance, 4) ? (uint8_t)any(&chance) : 1;
 }
 
-/* A table mode: mostly one of the two that have a name. */
-static uint8_t tables_by_chance(void)
+/* Which audio is taken: often that of one channel. */
+static uint8_t audio_by_chance(void)
+{
+    return once_in(&chance, 3) ? USM_AUDIO_CHANNEL : choice_by_chance();
+}
+
+/* A mode: mostly one of the two that have a name. */
+static uint8_t mode_by_chance(void)
 {
     return once_in(&chance, 8) ? (uint8_t)any(&chance) : (uint8_t)below(&chance, 2);
 }
@@ -200,10 +206,22 @@ static int is_type_of(uint8_t number, uint8_t type)
     return number == USM_UNKNOWN_TYPE ? type == 7 || type == 9 || (type >= 12 && type <= 15) : type == 0;
 }
 
-/* What a header may be refused with, as it is read. */
+/* What a table may be refused with, as it is read. */
 static int is_table_number(uint8_t number, struct usm_reading how)
 {
     return number <= USM_TOO_MANY || (number == USM_UNKNOWN_STORAGE && how.tables == USM_TABLES_ZERO_COLUMNS);
+}
+
+/* What a film may be. */
+static int is_film_number(uint8_t number, struct usm_reading how)
+{
+    return is_table_number(number, how) || (number == USM_SHORT_HEADER && how.payloads == USM_PAYLOADS_AFTER_HEADER);
+}
+
+/* How many bytes after its chunk's start a payload that is taken stands. */
+static uint32_t offset_in(const uint8_t *chunk, struct usm_reading how)
+{
+    return how.payloads == USM_PAYLOADS_AFTER_HEADER ? 8 + chunk[8] * 256u + chunk[9] : 32;
 }
 
 /* The first call: outputs without bytes. */
@@ -225,7 +243,7 @@ static void ask_for_sizes(struct reading *reading)
         reading->number = reply.number;
         reading->place = reply.refused_at;
         reading->unknown_type = reply.unknown_type;
-        EXPECT(is_table_number(reply.number, reading->how));
+        EXPECT(is_film_number(reply.number, reading->how));
         EXPECT(reply.number != USM_NO_FILM || reply.refused_at == 0);
         EXPECT(is_type_of(reply.number, reply.unknown_type));
         expect_refusal(&x, reply.number, reply.refused_at, 0, 0, reply.unknown_type);
@@ -321,16 +339,20 @@ static void make_streams(const struct reading *reading, const struct output *lis
         EXPECT(chunk.start >= next && chunk.start + 45 <= reading->len);
         next = chunk.start + 8;
         EXPECT(chunk.length == 0 || chunk.kind <= USM_CHUNK_AUDIO);
-        EXPECT(chunk.length == 0 || chunk.start + 32 + chunk.length <= reading->len);
+        EXPECT(chunk.start + chunk.offset + chunk.length <= reading->len);
+        EXPECT(chunk.offset == (chunk.length == 0 ? chunk.offset : offset_in(reading->film + chunk.start, reading->how)));
+        EXPECT(chunk.channel == reading->film[chunk.start + 12]);
+        EXPECT(chunk.length == 0 || chunk.kind != USM_CHUNK_AUDIO || reading->how.audio != USM_AUDIO_CHANNEL ||
+               chunk.channel == reading->how.channel);
         if (chunk.kind == USM_CHUNK_VIDEO) {
             EXPECT(video + chunk.length <= reading->video_size);
-            memcpy(right_video + video, reading->film + chunk.start + 32, chunk.length);
+            memcpy(right_video + video, reading->film + chunk.start + chunk.offset, chunk.length);
             if (reading->key.given && chunk.data_type == 0)
                 usm_unmask_video(reading->key.number, right_video + video, chunk.length);
             video += chunk.length;
         } else if (chunk.kind == USM_CHUNK_AUDIO) {
             EXPECT(audio + chunk.length <= reading->audio_size);
-            memcpy(right_audio + audio, reading->film + chunk.start + 32, chunk.length);
+            memcpy(right_audio + audio, reading->film + chunk.start + chunk.offset, chunk.length);
             if (reading->key.given && reading->masked_audio && chunk.data_type == 0)
                 usm_unmask_audio(reading->key.number, right_audio + audio, chunk.length);
             audio += chunk.length;
@@ -352,10 +374,10 @@ static void try_film(void)
     reading.film = lend_bytes(&films, case_edge, made.bytes, made.len);
     reading.fallback_len = once_in(&chance, 2) ? below(&chance, 2) : below(&chance, FALLBACK_BYTES + 1);
     reading.fallback = lend_bytes(&fallbacks, case_edge, fallback, reading.fallback_len);
-    reading.how.audio = choice_by_chance();
-    reading.how.channel = (uint8_t)any(&chance);
-    reading.how.payloads = (uint8_t)any(&chance);
-    reading.how.tables = tables_by_chance();
+    reading.how.audio = audio_by_chance();
+    reading.how.channel = (uint8_t)below(&chance, CHANNELS);
+    reading.how.payloads = mode_by_chance();
+    reading.how.tables = mode_by_chance();
     reading.key.number = key_by_chance();
     reading.key.given = choice_by_chance();
 
@@ -413,7 +435,7 @@ static void try_tables(void)
 {
     size_t place = make_any_table(&made, &chance);
     const uint8_t *bytes = lend_bytes(&films, case_edge, made.bytes, made.len);
-    struct usm_reading how = {choice_by_chance(), 0, 0, tables_by_chance()};
+    struct usm_reading how = {choice_by_chance(), 0, 0, mode_by_chance()};
     struct usm_table_reply table = try_table(bytes, place, how);
     int i;
 

@@ -54,6 +54,7 @@ mod containers {
     pub mod case;
     pub mod check;
     pub mod child;
+    pub mod choices;
     pub mod compare;
     pub mod damage;
     pub mod domain;
@@ -116,7 +117,12 @@ static PARTS: [Part; 4] = [
     },
     Part {
         name: "containers",
-        check: || report(containers::check::run(), |tally| tally.print()),
+        check: || {
+            report(containers::check::run(), |tally| tally.print())
+                && report(containers::choices::run(), |agreed| {
+                    println!("{} readings of one channel and {} after their headers agreed", agreed.channels, agreed.payloads)
+                })
+        },
         time: || {
             let goals = containers::timing::run();
             println!();

@@ -46,12 +46,14 @@ impl fmt::Display for Kind {
     }
 }
 
-/// A chunk of the list. The length is that of the payload, 0 where it is skipped.
+/// A chunk of the list. The length is that of the payload, 0 where it is skipped. The original has no channel: it is not
+/// in the lines that are recorded of it.
 #[derive(Clone, Copy, PartialEq, Eq)]
 pub struct Chunk {
     pub start: u64,
     pub kind: Kind,
     pub data_type: u8,
+    pub channel: u8,
     pub length: u64,
 }
 

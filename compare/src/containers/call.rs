@@ -27,7 +27,7 @@ const EVERY: usize = 2 * KEYS.len() * FALLBACKS.len() * ROOMS.len() * ROOMS.len(
 pub struct Call {
     /// Audio is taken, where it is not 0.
     pub audio: u8,
-    /// Channel, payloads and tables of the reading. The first two are not looked at; of the third 1 is, and is given as 0.
+    /// Channel, payloads and tables of the reading. The first is not looked at; of the others 1 is, and is given as 0.
     pub unread: [u8; 3],
     /// The key counts, where it is not 0.
     pub keyed: u8,
@@ -109,7 +109,7 @@ impl Call {
 
     /// Calls of both audio choices; in the first both outputs have the room they need.
     pub fn some(random: &mut Random) -> Vec<Call> {
-        let chosen = random.pick(&[1, 1, 1, 2, 255]);
+        let chosen = random.pick(&[1, 1, 1, 3, 255]);
         let roomy = Call { video_room: Room::Exact, audio_room: Room::OneLong, ..Call::any(chosen, random) };
         vec![roomy, Call::any(chosen, random), Call::any(0, random)]
     }
@@ -153,7 +153,8 @@ impl Call {
 
     pub fn reading(&self) -> ReadingBytes {
         let [channel, payloads, tables] = self.unread;
-        ReadingBytes { audio: self.audio, unread: [channel, payloads], tables: if tables == 1 { 0 } else { tables } }
+        let not_one = |number| if number == 1 { 0 } else { number };
+        ReadingBytes { audio: self.audio, channel, payloads: not_one(payloads), tables: not_one(tables) }
     }
 
     /// The same call as the export takes it; and once more where bits that do not count are turned.

@@ -4,14 +4,17 @@
 use std::ptr::{null, null_mut};
 
 use super::answer::{Chunk, Kind, Refusal, Tracks};
+use super::rules::INSIDE;
 
 #[repr(C)]
 #[derive(Clone, Copy)]
 pub struct ReadingBytes {
-    /// Audio is taken, where it is not 0.
+    /// No audio is taken by 0, that of one channel by 2, all by every other number.
     pub audio: u8,
-    /// Not looked at: channel and payloads of usm.h.
-    pub unread: [u8; 2],
+    /// Looked at beside 2 alone.
+    pub channel: u8,
+    /// Payloads start after their headers where it is 1; else where the original takes them.
+    pub payloads: u8,
     /// Zero columns take no room where it is 1; else tables are read as the original does.
     pub tables: u8,
 }
@@ -60,7 +63,9 @@ pub struct Record {
     pub start: u64,
     pub kind: u8,
     pub data_type: u8,
-    pub padding: [u8; 6],
+    pub channel: u8,
+    pub padding: u8,
+    pub offset: u32,
     pub length: u64,
 }
 
@@ -127,7 +132,7 @@ pub fn list(container: &[u8], reading: ReadingBytes, list: &mut [Record]) -> Lis
 
 /// The numbers of both with NULL for every slice of length 0, which usm.h allows.
 pub fn both_with_null() -> [u8; 2] {
-    let (reading, key) = (ReadingBytes { audio: 1, unread: [0; 2], tables: 0 }, KeyBytes { number: 0, given: 1 });
+    let (reading, key) = (ReadingBytes { audio: 1, channel: 0, payloads: 0, tables: 0 }, KeyBytes { number: 0, given: 1 });
     // SAFETY: nothing is read or written through a pointer with length 0.
     unsafe {
         [
@@ -217,5 +222,6 @@ pub fn record(chunk: &Chunk) -> Record {
         Kind::Other => 2,
         Kind::End => 3,
     };
-    Record { start: chunk.start, kind, data_type: chunk.data_type, padding: [0; 6], length: chunk.length }
+    let Chunk { start, data_type, channel, length, .. } = *chunk;
+    Record { start, kind, data_type, channel, padding: 0, offset: INSIDE as u32, length }
 }

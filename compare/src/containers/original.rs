@@ -64,7 +64,7 @@ fn film(container: &[u8], audio: bool, fallback: &[u8], streams: Vec<ExtractedUs
     let mut reader = Reader::new(Cursor::new(container));
     let header = read_header(&mut reader, fallback).expect("the header of an accepted container");
     let takes_audio = header.tracks.has_audio && audio;
-    let chunks = chunks(&mut reader, takes_audio).expect("the chunks of an accepted container");
+    let chunks = chunks(container, &mut reader, takes_audio).expect("the chunks of an accepted container");
     let mut streams = streams.into_iter();
     let video = streams.next().expect("a video stream");
     let (audio_kind, audio) = match streams.next() {
@@ -75,11 +75,12 @@ fn film(container: &[u8], audio: bool, fallback: &[u8], streams: Vec<ExtractedUs
 }
 
 /// A walk by the original's `read_chunk_header` from where the header ends.
-fn chunks(reader: &mut Reader<Cursor<&[u8]>>, takes_audio: bool) -> Result<Vec<Chunk>, UsmError> {
+fn chunks(container: &[u8], reader: &mut Reader<Cursor<&[u8]>>, takes_audio: bool) -> Result<Vec<Chunk>, UsmError> {
     let mut chunks = Vec::new();
     let mut place = reader.stream_position()?;
     while let Some(header) = access::read_chunk_header(reader, place)? {
-        chunks.push(chunk(place, &header, takes_audio));
+        let channel = container[place as usize + 12];
+        chunks.push(Chunk { channel, ..chunk(place, &header, takes_audio) });
         place = reader.seek(SeekFrom::Start(header.next))?;
     }
     Ok(chunks)
@@ -93,7 +94,7 @@ fn chunk(start: u64, header: &access::Chunk, takes_audio: bool) -> Chunk {
         _ => (Kind::Other, false),
     };
     let length = if taken { header.payload_length() as u64 } else { 0 };
-    Chunk { start, kind, data_type: header.data_type, length }
+    Chunk { start, kind, data_type: header.data_type, channel: 0, length }
 }
 
 /// Document 01's number for an error of the original.

@@ -73,10 +73,19 @@ impl List {
 }
 
 fn words(record: &Record) -> String {
-    format!("{} {} {} {}", record.start, record.kind, record.data_type, record.length)
+    let Record { start, kind, data_type, channel, offset, length, .. } = record;
+    format!("{start} {kind} {data_type} {length}, channel {channel}, from {offset} on")
 }
 
 /// What stands in a list before a call.
 fn blank(at: usize) -> Record {
-    Record { start: !(at as u64), kind: 0xA5, data_type: 0x5A, padding: [0xC3; 6], length: !(at as u64) << 8 }
+    Record {
+        start: !(at as u64),
+        kind: 0xA5,
+        data_type: 0x5A,
+        channel: 0xC3,
+        padding: 0x3C,
+        offset: !(at as u32),
+        length: !(at as u64) << 8,
+    }
 }

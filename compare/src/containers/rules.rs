@@ -166,7 +166,7 @@ impl<'a> Walk<'a> {
             _ => (Kind::Other, false),
         };
         let length = if taken { self.payload(head)? } else { 0 };
-        Ok(Chunk { start: self.block, kind, data_type, length })
+        Ok(Chunk { start: self.block, kind, data_type, channel: head[12], length })
     }
 
     /// The length of a payload that is taken.

@@ -26,6 +26,11 @@ fn two_chunks() -> [Chunk; 4] {
     [Chunk::new(SFV, &[1; 32]), Chunk::new(SFA, &[2; 32]), Chunk::end(SFV), Chunk::end(SFA)]
 }
 
+/// Tables with audio of this codec.
+pub fn with_codec(number: u8) -> Tables {
+    audio(codec(STORED, number))
+}
+
 fn audio(table: Vec<u8>) -> Tables {
     Tables { audio: Some(table), ..Tables::empty() }
 }

@@ -76,7 +76,7 @@ fn lent(container: &[u8], key: Option<u64>, video: &mut [u8], audio: &mut [u8]) 
 }
 
 /// Every payload is taken.
-pub const WITH_AUDIO: ReadingBytes = ReadingBytes { audio: 1, unread: [0; 2], tables: 0 };
+pub const WITH_AUDIO: ReadingBytes = ReadingBytes { audio: 1, channel: 0, payloads: 0, tables: 0 };
 
 fn how(key: Option<u64>) -> How<'static> {
     let key = KeyBytes { number: key.unwrap_or(0), given: key.is_some().into() };
