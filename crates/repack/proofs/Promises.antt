@@ -1,6 +1,6 @@
 -- The promises of specs/Promises.antt, each under its name. Assumes nothing.
 use Prim.Native.Nat.{ℕ, _+_, _≤_}
-use mathlib.Core.Path.{_≡_, refl, sym, ap, ap₂, _∙_}
+use mathlib.Core.Path.{_≡_, refl, sym, ap, ap₂, _∙_, subst}
 use mathlib.Core.List.{List, []}
 use mathlib.Core.Bool.{Bool, true, false, cond}
 use native.Mathlib.Omega.{arith}
@@ -17,7 +17,7 @@ use Rattle.film.specs.Films.{Film, film, filmOf, surveyOf}
 use Rattle.film.specs.declared.Surveyed.the-variants as survey
 use Rattle.extract.specs.declared.Extracted.{Extracted}
 use Rattle.extract.specs.declared.Extracted.the-variants as extracted
-use Rattle.extract.specs.Extraction.{extractedIn, extractedOf, videoOf, audioOf, leftBy, Extraction}
+use Rattle.extract.specs.Extraction.{extractedIn, extractedOf, videoOf, audioOf, leftBy, SizesWithin, Extraction}
 use Rattle.extract.proofs.Promises.{SizesAreTheStreams, OneFilmWhereBitsAgree}
 use Rattle.written.specs.declared.Written.the-variants.{Size}
 use Rattle.written.proofs.RoomLaws.{planned-so}
@@ -107,8 +107,9 @@ ReadingBackWhereBitsAgree name video audio packing out out′ size key key′ re
     let s = extractedOf c reading seen heard in
     let video₀ = leftBy s seen (videoOf c (Given key) (filmOf c reading)) in
     let audio₀ = leftBy s heard (audioOf c (Given key) (filmOf c reading)) in
-    let same = OneFilmWhereBitsAgree c reading key key′ seen heard s r video₀ audio₀ seen′ heard′ agree (refl, refl, refl) x in
-    let back = ReadingBack name video audio packing out out′ size reading seen heard video₀ audio₀ s mpeg other w chosen v a (rw k (refl, refl, refl)) in
+    let within : SizesWithin c s = subst (SizesWithin c) (x .0) (x .3) in
+    let same = OneFilmWhereBitsAgree c reading key key′ seen heard s r video₀ audio₀ seen′ heard′ agree (refl, refl, refl, within) x in
+    let back = ReadingBack name video audio packing out out′ size reading seen heard video₀ audio₀ s mpeg other w chosen v a (rw k (refl, refl, refl, within)) in
     (sym (same .0) ∙ back .0, back .1, sym (same .1) ∙ back .2, sym (same .2) ∙ back .3)
 
 pub ListingBack : promised.ListingBack
