@@ -10,25 +10,25 @@ use lib.Dec.{ltb}
 use borrow.Author.Tests.{lt-ltb, le-ltb}
 use Rattle.laws.proofs.Side.{side}
 use Rattle.refusal.specs.declared.Cause.{Cause}
-use Rattle.refusal.specs.declared.Cause.the-variants.{RanOut, TooSmall}
+use Rattle.refusal.specs.declared.Cause.the-variants.{RanOut, TooSmall, ShortHeader}
 use Rattle.refusal.specs.declared.Refusal.{Refusal}
+use Rattle.reading.specs.declared.PayloadMode.{PayloadMode}
 use Rattle.reading.specs.declared.Applied.{Applied}
 use Rattle.chunk.specs.declared.Opening.{Opening}
 use Rattle.chunk.specs.declared.Chunk.{Chunk}
 use Rattle.chunk.specs.declared.ChunkStep.{ChunkStep}
 use Rattle.chunk.specs.declared.ChunkStep.the-variants.{Over, Found, Refused}
 use Rattle.chunk.specs.Openings.{openingAt}
-use Rattle.chunk.specs.Chunks.{isTaken, chunkOf, refusedAt, presentIn, takenAt, openedAt, chunkAt}
+use Rattle.chunk.specs.Chunks.{isTaken, offsetOf, isShort, chunkOf, refusedAt, heldAt, takenAt, openedAt, chunkAt}
 use Rattle.chunk.proofs.CaseLaws.{over, cut, opened}
-use Rattle.chunk.proofs.FoundLaws.{found}
+use Rattle.chunk.proofs.FoundLaws.{not-refused, found}
 use Rattle.chunk.proofs.OpeningLaws.{same-opening}
 use Rattle.beginning.specs.Needs.{larger, needOf}
 use Rattle.beginning.proofs.ByteLaws.{longer, taken-kept}
 
--- what was found past a test was not refused by it
-unrefused : (t : Bool) (c : ℕ) (why : Cause) (next : ChunkStep) (chunk : Chunk) → cond t (refusedAt c why) next ≡ Found chunk → (t ≡ false) × (next ≡ Found chunk)
-unrefused true c why next chunk e = let z : _≡_ {A = ℕ} 0 1 = cc in absurd (omega arith)
-unrefused false c why next chunk e = (refl, e)
+-- whether the payload of the chunk of an opening is taken
+abbrev takes : Applied → Opening → Bool
+takes reading opening = isTaken reading (opening .kind) (opening .channel)
 
 -- where the larger of two lies within a bound, both do; where it does not and one does, the other lies past it
 pub both-within : (m n p : ℕ) → larger m n ≤ p → (m ≤ p) × (n ≤ p)
@@ -44,80 +44,83 @@ module _ (s more : List ℕ) (c : ℕ) where
 
   -- ---- its payload, taken or skipped
 
-  module _ (chunk : Chunk) where
-    -- a payload that is present with more behind s
-    module _ (made : Chunk) (there : presentIn (s ++ more) made ≡ Found chunk) where
-      is-made : made ≡ chunk
-      unfolding presentIn
-      is-made = let a = unrefused (ltb (length (s ++ more) - made .payload) (made .len)) (made .start) RanOut (Found made) chunk there .1 in cc
+  module _ (chunk : Chunk) (opening : Opening) where
+    abbrev size : ℕ
+    size = opening .block - (opening .header + opening .footer)
 
-      present-kept : chunk .payload + chunk .len ≤ length s → presentIn s made ≡ Found chunk
-      unfolding presentIn
-      present-kept h = rw (is-made, le-ltb (length s - chunk .payload) (chunk .len) (omega arith))
+    -- a payload that is held with more behind s: not too small, present, and of this chunk
+    held : (offset : ℕ) → heldAt (s ++ more) c opening offset ≡ Found chunk
+        → (ltb (opening .block) (opening .header + opening .footer) ≡ false) × (chunkOf c opening offset size ≡ chunk)
+    unfolding heldAt
+    held offset e =
+        let a = not-refused (ltb (opening .block) (opening .header + opening .footer)) c TooSmall chunk _ e in
+        let b = not-refused (ltb (length (s ++ more)) (c + offset + size)) c RanOut chunk _ (a .1) in
+        (a .0, cc)
 
-      present-cut : chunk .payload ≤ length s → length s < chunk .payload + chunk .len → presentIn s made ≡ refusedAt (chunk .start) RanOut
-      unfolding presentIn
-      present-cut g h = rw (is-made, lt-ltb (length s - chunk .payload) (chunk .len) (omega arith))
+    -- where the payload of a chunk that was made ends
+    ends-there : (offset n : ℕ) → chunkOf c opening offset n ≡ chunk → c + offset + n ≡ chunk .payload + chunk .len
+    unfolding chunkOf
+    ends-there offset n e = ap (λ (made : Chunk). made .payload + made .len) e
 
-    module _ (opening : Opening) where
-      abbrev made : Chunk
-      made = chunkOf c opening (opening .block - (opening .header + opening .footer))
+    held-kept : (offset : ℕ) → heldAt (s ++ more) c opening offset ≡ Found chunk → chunk .payload + chunk .len ≤ length s → heldAt s c opening offset ≡ Found chunk
+    unfolding heldAt
+    held-kept offset e h =
+        let a = held offset e in
+        rw (a .0, le-ltb (length s) (c + offset + size) (omega (arith, ends-there offset size (a .1)))) (ap Found (a .1))
 
-      -- what was found with more behind s was not too small
-      large : takenAt (s ++ more) c opening ≡ Found chunk → (ltb (opening .block) (opening .header + opening .footer) ≡ false) × (presentIn (s ++ more) made ≡ Found chunk)
+    held-cut : (offset : ℕ) → heldAt (s ++ more) c opening offset ≡ Found chunk → length s < chunk .payload + chunk .len → heldAt s c opening offset ≡ refusedAt c RanOut
+    unfolding heldAt
+    held-cut offset e h =
+        let a = held offset e in
+        rw (a .0, lt-ltb (length s) (c + offset + size) (omega (arith, ends-there offset size (a .1))))
+
+    -- t: it is taken
+    module _ (mode : PayloadMode) where
+      kept-by : (t : Bool) → cond t (takenAt (s ++ more) mode c opening) (Found (chunkOf c opening 0x20 0)) ≡ Found chunk → chunk .payload + chunk .len ≤ length s
+          → cond t (takenAt s mode c opening) (Found (chunkOf c opening 0x20 0)) ≡ Found chunk
       unfolding takenAt
-      large e = unrefused (ltb (opening .block) (opening .header + opening .footer)) c TooSmall (presentIn (s ++ more) made) chunk e
+      kept-by true e h =
+          let a = not-refused (isShort mode opening) c ShortHeader chunk _ e in
+          rw (a .0) (held-kept (offsetOf mode opening) (a .1) h)
+      kept-by false e h = e
 
-      by-taken : (t : Bool) → cond t (takenAt (s ++ more) c opening) (Found (chunkOf c opening 0)) ≡ Found chunk → chunk .payload + chunk .len ≤ length s
-          → cond t (takenAt s c opening) (Found (chunkOf c opening 0)) ≡ Found chunk
+      cut-by : c + 45 ≤ length s → (t : Bool) → cond t (takenAt (s ++ more) mode c opening) (Found (chunkOf c opening 0x20 0)) ≡ Found chunk → length s < chunk .payload + chunk .len
+          → cond t (takenAt s mode c opening) (Found (chunkOf c opening 0x20 0)) ≡ refusedAt c RanOut
       unfolding takenAt
-      by-taken true e h = let a = large e in rw (a .0) (present-kept made (a .1) h)
-      by-taken false e h = e
+      cut-by whole true e h =
+          let a = not-refused (isShort mode opening) c ShortHeader chunk _ e in
+          rw (a .0) (held-cut (offsetOf mode opening) (a .1) h)
+      cut-by whole false e h =
+          let is : chunkOf c opening 0x20 0 ≡ chunk = cc in
+          absurd (omega (arith, ends-there 0x20 0 is))
 
-      -- the payload starts within the 45 bytes that every chunk has
-      starts-within : (n : ℕ) → chunkOf c opening n ≡ chunk → (chunk .start ≡ c) × (chunk .payload ≡ c + 0x20) × (chunk .len ≡ n)
-      unfolding chunkOf
-      starts-within n e = (sym (ap (λ (k : Chunk). k .start) e), sym (ap (λ (k : Chunk). k .payload) e), sym (ap (λ (k : Chunk). k .len) e))
+  -- ---- the chunk
 
-      by-cut : c + 45 ≤ length s → (t : Bool) → cond t (takenAt (s ++ more) c opening) (Found (chunkOf c opening 0)) ≡ Found chunk → length s < chunk .payload + chunk .len
-          → cond t (takenAt s c opening) (Found (chunkOf c opening 0)) ≡ refusedAt c RanOut
-      unfolding takenAt
-      by-cut whole true e h =
-          let a = large e in
-          let w = starts-within _ (is-made made (a .1)) in
-          rw (a .0) (present-cut made (a .1) (omega (arith, w .1)) h ∙ ap (λ (p : ℕ). refusedAt p RanOut) (w .0))
-      by-cut whole false e h =
-          let is : chunkOf c opening 0 ≡ chunk = cc in
-          let w = starts-within 0 is in
-          absurd (omega (arith, w .1, w .2))
+  module _ (chunk : Chunk) (reading : Applied) (e : chunkAt (s ++ more) reading c ≡ Found chunk) where
+    by-opening : c + 45 ≤ length s → openedAt (s ++ more) reading c (openingAt s c) ≡ Found chunk
+    by-opening h =
+        let n = longer s more in
+        ap (openedAt (s ++ more) reading c) (sym (opening-kept h)) ∙ opened (s ++ more) reading c (omega arith) ∙ e
 
-    -- ---- the chunk
+    starts : chunk .start ≡ c
+    starts = found (s ++ more) reading c chunk e .start
 
-    module _ (reading : Applied) (e : chunkAt (s ++ more) reading c ≡ Found chunk) where
-      by-opening : c + 45 ≤ length s → openedAt (s ++ more) reading c (openingAt s c) ≡ Found chunk
-      by-opening h =
-          let n = longer s more in
-          ap (openedAt (s ++ more) reading c) (sym (opening-kept h)) ∙ opened (s ++ more) reading c (omega arith) ∙ e
+    pub chunk-kept : needOf chunk ≤ length s → chunkAt s reading c ≡ Found chunk
+    unfolding openedAt
+    chunk-kept h =
+        let w = both-within (chunk .start + 45) (chunk .payload + chunk .len) (length s) h in
+        let whole : c + 45 ≤ length s = omega (arith, w .0, starts) in
+        sym (opened s reading c (omega arith)) ∙ kept-by chunk (openingAt s c) (reading .payloads) (takes reading (openingAt s c)) (by-opening whole) (w .1)
 
-      starts : chunk .start ≡ c
-      starts = found (s ++ more) reading c chunk e .start
-
-      pub chunk-kept : needOf chunk ≤ length s → chunkAt s reading c ≡ Found chunk
-      unfolding openedAt
-      chunk-kept h =
-          let w = both-within (chunk .start + 45) (chunk .payload + chunk .len) (length s) h in
-          let whole : c + 45 ≤ length s = omega (arith, w .0, starts) in
-          sym (opened s reading c (omega arith)) ∙ by-taken (openingAt s c) (isTaken reading (openingAt s c .kind)) (by-opening whole) (w .1)
-
-      pub chunk-cut : c + 4 ≤ length s → length s < needOf chunk → chunkAt s reading c ≡ refusedAt c RanOut
-      unfolding openedAt
-      chunk-cut four h =
-          ⊎-elim
-          (λ (g : length s < c + 45). sym (cut s reading c (omega arith) (omega arith)))
-          (λ (g : c + 45 ≤ length s).
-          sym (opened s reading c (omega arith))
-          ∙ by-cut (openingAt s c) g (isTaken reading (openingAt s c .kind)) (by-opening g) (one-past (chunk .start + 45) (chunk .payload + chunk .len) (length s) (omega (arith, starts)) h))
-          (side (length s) (c + 45))
+    pub chunk-cut : c + 4 ≤ length s → length s < needOf chunk → chunkAt s reading c ≡ refusedAt c RanOut
+    unfolding openedAt
+    chunk-cut four h =
+        ⊎-elim
+        (λ (g : length s < c + 45). sym (cut s reading c (omega arith) (omega arith)))
+        (λ (g : c + 45 ≤ length s).
+        let past = one-past (chunk .start + 45) (chunk .payload + chunk .len) (length s) (omega (arith, starts)) h in
+        sym (opened s reading c (omega arith)) ∙ cut-by chunk (openingAt s c) (reading .payloads) g (takes reading (openingAt s c)) (by-opening g) past)
+        (side (length s) (c + 45))
 
 -- ---- a chunk that is refused
 
@@ -132,12 +135,16 @@ module _ (container : List ℕ) (reading : Applied) (c : ℕ) where
   tested true why next h = refl
   tested false why next h = h
 
-  taken-or-not : (opening : Opening) (t : Bool) → AtPlace c (cond t (takenAt container c opening) (Found (chunkOf c opening 0)))
-  unfolding takenAt presentIn chunkOf
+  taken-or-not : (opening : Opening) (t : Bool) → AtPlace c (cond t (takenAt container (reading .payloads) c opening) (Found (chunkOf c opening 0x20 0)))
+  unfolding takenAt heldAt
   taken-or-not opening true =
+      let offset = offsetOf (reading .payloads) opening in
       let spare = opening .header + opening .footer in
-      let chunk = chunkOf c opening (opening .block - spare) in
-      tested (ltb (opening .block) spare) TooSmall (presentIn container chunk) (tested (ltb (length container - chunk .payload) (chunk .len)) RanOut (Found chunk) tt)
+      let size = opening .block - spare in
+      let chunk = chunkOf c opening offset size in
+      tested (isShort (reading .payloads) opening) ShortHeader (heldAt container c opening offset)
+      (tested (ltb (opening .block) spare) TooSmall (cond (ltb (length container) (c + offset + size)) (refusedAt c RanOut) (Found chunk))
+      (tested (ltb (length container) (c + offset + size)) RanOut (Found chunk) tt))
   taken-or-not opening false = tt
 
   over-or : (t : Bool) (next : ChunkStep) → AtPlace c next → AtPlace c (cond t Over next)
@@ -150,7 +157,7 @@ module _ (container : List ℕ) (reading : Applied) (c : ℕ) where
       let left = length container - c in
       let next = openedAt container reading c (openingAt container c) in
       over-or (ltb left 4) (cond (ltb left 45) (refusedAt c RanOut) next)
-      (tested (ltb left 45) RanOut next (taken-or-not (openingAt container c) (isTaken reading (openingAt container c .kind))))
+      (tested (ltb left 45) RanOut next (taken-or-not (openingAt container c) (takes reading (openingAt container c))))
 
   -- it carries its own start, and has its letters there
   pub refused-there : (refusal : Refusal) → chunkAt container reading c ≡ Refused refusal → (refusal .place ≡ c) × (c + 4 ≤ length container)

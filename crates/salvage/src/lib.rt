@@ -41,7 +41,7 @@ pub struct SalvageReply {
 }
 
 // Where a container can be cut, as its chunks go: not at all, or up to a place, and why.
-pub enum Fit {
+enum Fit {
     Whole,
     UpTo { place: usize, refusal: Refusal },
 }
