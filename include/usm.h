@@ -111,6 +111,7 @@ void usm_mask_audio(uint64_t key, uint8_t *payload, size_t len);
 #define USM_SHORT_ROOM 16     /* the output is too short for what would be written */
 #define USM_SHORT_HEADER 17   /* a header size below 0x18, where payloads stand after their headers */
 #define USM_UNKNOWN_STORAGE 18 /* a column's high nibble is none of 1, 3, 5 and 7, where these are the only ones */
+#define USM_NO_BEGINNING 21   /* no beginning of the container is accepted */
 #define USM_CODEC_ALONE 23    /* an audio codec is given, and no audio */
 
 /*
@@ -203,6 +204,8 @@ static inline const char *usm_reason(uint8_t number)
         return "a header that is too short";
     case USM_UNKNOWN_STORAGE:
         return "unknown storage of a column";
+    case USM_NO_BEGINNING:
+        return "no beginning is accepted";
     case USM_CODEC_ALONE:
         return "an audio codec without audio";
     default:
@@ -418,6 +421,34 @@ struct usm_packing {
 struct usm_size_reply usm_write(const uint8_t *name, size_t name_len, const uint8_t *video,
                                 size_t video_len, const uint8_t *audio, size_t audio_len,
                                 struct usm_packing packing, uint8_t *out, size_t out_len);
+
+/*
+ * Uploads that stopped early.
+ */
+
+/* The reply on how much of a container is kept. 32 bytes. */
+struct usm_salvage_reply {
+    size_t refused_at;
+    size_t kept;          /* how many bytes are kept, from the first on; 0 beside a refusal */
+    size_t dropped;       /* how many are left: both together are `len` (proved); 0 beside a refusal */
+    uint8_t number;
+    uint8_t unknown_type;
+    uint8_t cause;        /* the number of the refusal that caused the cut, USM_RAN_OUT or USM_TOO_SMALL;
+                             0 where nothing is dropped, and beside a refusal */
+};
+
+/*
+ * What can be kept of a film that is cut or damaged: the longest beginning that usm_extract accepts with
+ * audio taken and outputs that are long enough, of those that end where a chunk starts, the refused
+ * chunk's own start included. It is accepted, and no longer one of them is (proved). A film that is
+ * accepted is kept whole, with 0 dropped and cause 0 (proved). The beginning is often shorter than up to
+ * the refused chunk: every chunk needs 45 bytes behind its start, and a payload may reach past its chunk.
+ *
+ * Of the numbers it gives, in this order: USM_TOO_LONG; those of the header, which is not mended, with
+ * their places; USM_NO_BEGINNING, with `refused_at` 0, where no such beginning is accepted. It reads the
+ * header at most twice and each chunk once, however many cuts there are to choose from.
+ */
+struct usm_salvage_reply usm_salvage(const uint8_t *container, size_t len);
 
 #ifdef __cplusplus
 }
