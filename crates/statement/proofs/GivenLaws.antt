@@ -9,7 +9,7 @@ use lib.Seq.{sets, sets-eq, take-at}
 use lib.Dec.{ltb, eqb}
 use borrow.Author.Tests.{ltb-false}
 use Rattle.refusal.specs.declared.Cause.{Cause}
-use Rattle.refusal.specs.declared.Cause.the-variants.{RanOut, NoFilm, NoTable, NoVideo, NoAudio, NoHeaderEnd, NoMetadataEnd, UnknownType, TooSmall, TooMany, TooLong, ShortOutput, ShortList, Oversized, MarkedPayload, ShortRoom, ShortHeader, UnknownStorage, Foreign, ManyAudios, NoBeginning, BadTenants, CodecAlone}
+use Rattle.refusal.specs.declared.Cause.the-variants.{RanOut, NoFilm, NoTable, NoVideo, NoAudio, NoHeaderEnd, NoMetadataEnd, UnknownType, TooSmall, TooMany, TooLong, ShortOutput, ShortList, MarkedPayload, ShortRoom, ShortHeader, UnknownStorage, Foreign, ManyAudios, NoBeginning, BadTenants, CodecAlone}
 use Rattle.refusal.specs.Numbers.{numberOf}
 use Rattle.film.specs.Films.{Film, film, refused}
 use Rattle.list.specs.declared.Listed.{Listed}
@@ -39,7 +39,6 @@ no-zero TooMany e = omega arith
 no-zero TooLong e = omega arith
 no-zero (ShortOutput video audio) e = omega arith
 no-zero (ShortList count) e = omega arith
-no-zero Oversized e = omega arith
 no-zero MarkedPayload e = omega arith
 no-zero (ShortRoom size) e = omega arith
 no-zero ShortHeader e = omega arith
