@@ -450,6 +450,30 @@ struct usm_salvage_reply {
  */
 struct usm_salvage_reply usm_salvage(const uint8_t *container, size_t len);
 
+/*
+ * Writes the table that begins at byte `place` of the `len` bytes at `bytes` as CSV by RFC 4180: a
+ * record of the column names, then one for each row, each ended by CR LF, fields separated by commas.
+ * Columns of one name are all written. Of `reading` only `tables` is looked at.
+ *
+ *     numbers   decimal, with a minus sign where they are negative
+ *     floats    their 32 bits as eight hex digits
+ *     data      two hex digits for each byte
+ *     strings   their bytes, whatever they are
+ *
+ * Hex digits are lower-case. A field with a comma, a quote, CR or LF stands in quotes, and its quotes are
+ * doubled. A table without columns is written as nothing, whatever its rows; one without rows as its
+ * names. Reading the bytes back by the RFC's rules gives the same texts, field by field (proved). What a
+ * spreadsheet makes of a field is another matter: one that begins with =, +, - or @ may be run as a
+ * formula there.
+ *
+ * Of the numbers it gives those of a table, at `place`, and then USM_SHORT_ROOM, at 0. The work is at
+ * most in proportion to the table and to the size that is replied, also beside USM_SHORT_ROOM. Rows can
+ * share one long string, so a table of 16,384 bytes can have a CSV of some 245,000,000: ask for the size
+ * first, and decide.
+ */
+struct usm_size_reply usm_csv(const uint8_t *bytes, size_t len, size_t place,
+                              struct usm_reading reading, uint8_t *out, size_t out_len);
+
 #ifdef __cplusplus
 }
 #endif

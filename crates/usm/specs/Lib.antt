@@ -1,3 +1,4 @@
 pub mod Exports
 pub mod Writes
+pub mod Tables
 pub mod Promises
