@@ -25,16 +25,19 @@ plain-append (x ∷ v) w e f = go (isMark x) e (plain-append v w)
     go true e more = e
     go false e more = more e f
 
-escaped-length : (x : ℕ) (t : Bool) → length (cond t (quote ∷ quote ∷ []) (x ∷ [])) ≤ 2
-escaped-length x true = omega arith
-escaped-length x false = omega arith
+escaped-length : (x : ℕ) → length (escaped x) ≤ 2
+escaped-length x = go (eqb x quote) refl
+  where
+    go : (t : Bool) → eqb x quote ≡ t → length (escaped x) ≤ 2
+    go true e = rw e (omega arith)
+    go false e = rw e (omega arith)
 
 pub doubled-length : (w : List ℕ) → length (doubled w) ≤ 2 * length w
 unfolding doubled
 doubled-length [] = omega arith
 doubled-length (x ∷ w) =
     let more = doubled-length w in
-    let one = escaped-length x (eqb x quote) in
+    let one = escaped-length x in
     simp length-append (omega arith)
 
 pub field-length : (w : List ℕ) → length (fieldOf w) ≤ 2 * length w + 2

@@ -3,3 +3,4 @@ pub mod LengthLaws
 pub mod ReadLaws
 pub mod Promises
 pub mod OneAnswer
+pub mod Examples

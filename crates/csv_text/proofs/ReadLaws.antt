@@ -8,7 +8,7 @@ use lib.ListN.{length}
 use lib.Dec.{eqb}
 use borrow.Author.Tests.{eqb-true}
 use Rattle.laws.specs.Lists.{at}
-use Rattle.csv_text.specs.Written.{quote, comma, cr, lf, isMark, isQuoted, doubled, fieldOf, markAfter, recordOf, csvOf}
+use Rattle.csv_text.specs.Written.{quote, comma, cr, lf, isMark, isQuoted, escaped, doubled, fieldOf, markAfter, recordOf, csvOf}
 use Rattle.csv_text.specs.Reading.{Stand, atRecord, atField, inField, inQuotes, afterQuote, stepOf, readFrom, recordsIn}
 use Rattle.csv_text.specs.Promises.{SomeInEach}
 
@@ -17,17 +17,17 @@ use Rattle.csv_text.specs.Promises.{SomeInEach}
 module _ (rest : List ℕ) (fields : List (List ℕ)) where
   -- a byte that is no quote is text; a quote that stands twice is one
   byte-in-quotes : (x : ℕ) (xs field : List ℕ) (t : Bool) → eqb x quote ≡ t
-      → readFrom (cond t (quote ∷ quote ∷ []) (x ∷ []) ++ xs) inQuotes field fields ≡ readFrom xs inQuotes (field ++ (x ∷ [])) fields
+      → readFrom (escaped x ++ xs) inQuotes field fields ≡ readFrom xs inQuotes (field ++ (x ∷ [])) fields
   unfolding readFrom stepOf
   byte-in-quotes x xs field true e = rw (eqb-true x quote e)
-  byte-in-quotes x xs field false e = rw e
+  byte-in-quotes x xs field false e = rw (e, e)
 
   in-quotes : (w field : List ℕ) → readFrom (doubled w ++ rest) inQuotes field fields ≡ readFrom rest inQuotes (field ++ w) fields
   unfolding doubled
   in-quotes [] field = rw (append-nil field)
   in-quotes (x ∷ w) field =
       let e : (field ++ (x ∷ [])) ++ w ≡ field ++ (x ∷ w) = append-assoc field (x ∷ []) w in
-      rw (append-assoc (cond (eqb x quote) (quote ∷ quote ∷ []) (x ∷ [])) (doubled w) rest)
+      rw (append-assoc (escaped x) (doubled w) rest)
       (byte-in-quotes x (doubled w ++ rest) field (eqb x quote) refl ∙ in-quotes w (field ++ (x ∷ [])) ∙ rw e)
 
 -- ---- text without quotes
