@@ -46,6 +46,7 @@ mod tables {
     pub mod sketch;
     pub mod tally;
     pub mod timing;
+    pub mod zero_columns;
 }
 
 mod containers {

@@ -7,7 +7,7 @@ use super::compare::compare;
 use super::exports::both_with_null;
 use super::shrink::shrink;
 use super::tally::Tally;
-use super::{damage, generate, samples};
+use super::{damage, generate, samples, zero_columns};
 use crate::hex::input;
 use crate::panics;
 use crate::progress::Progress;
@@ -53,6 +53,7 @@ pub fn run() -> Result<Tally, Disagreement> {
         done.agree_damaged(&generate::small(&mut random), &mut random)?;
     }
     null_is_allowed()?;
+    done.tally.zero_columns = zero_columns::run().map_err(|what| Disagreement { what, smallest: None })?;
     Ok(done.tally)
 }
 

@@ -40,7 +40,7 @@ unsafe extern "C" {
     ) -> CellReply;
 }
 
-// SAFETY, for the two calls below: each pointer and length are those of one slice lent to this call.
+// SAFETY, for the four calls below: each pointer and length are those of one slice lent to this call.
 
 pub fn table(bytes: &[u8], place: usize) -> TableReply {
     unsafe { usm_table(bytes.as_ptr(), bytes.len(), place, WITH_AUDIO) }
@@ -50,8 +50,21 @@ pub fn cell(bytes: &[u8], place: usize, name: &[u8], row: usize) -> CellReply {
     unsafe { usm_cell(bytes.as_ptr(), bytes.len(), place, name.as_ptr(), name.len(), row, WITH_AUDIO) }
 }
 
+/// As `WITH_AUDIO` reads, with tables whose zero columns take no room.
+const WITH_ZERO_COLUMNS: ReadingBytes = ReadingBytes { tables: 1, ..WITH_AUDIO };
+
+pub fn table_with_zero_columns(bytes: &[u8]) -> TableReply {
+    unsafe { usm_table(bytes.as_ptr(), bytes.len(), 0, WITH_ZERO_COLUMNS) }
+}
+
+pub fn cell_with_zero_columns(bytes: &[u8], name: &[u8], row: usize) -> CellReply {
+    unsafe { usm_cell(bytes.as_ptr(), bytes.len(), 0, name.as_ptr(), name.len(), row, WITH_ZERO_COLUMNS) }
+}
+
 /// The numbers of both with NULL for every slice of length 0, which usm.h allows.
 pub fn both_with_null(place: usize) -> [u8; 2] {
     // SAFETY: nothing is read through a pointer with length 0.
-    unsafe { [usm_table(null(), 0, place, WITH_AUDIO).number, usm_cell(null(), 0, place, null(), 0, 0, WITH_AUDIO).number] }
+    unsafe {
+        [usm_table(null(), 0, place, WITH_AUDIO).number, usm_cell(null(), 0, place, null(), 0, 0, WITH_AUDIO).number]
+    }
 }

@@ -1,6 +1,7 @@
 //! What the check of tables has seen, and the lines that say so at its end.
 
 use super::answer::{Cell, Refusal};
+use super::zero_columns;
 
 pub enum Outcome {
     Accepted,
@@ -48,6 +49,7 @@ pub struct Tally {
     cells: [u64; CASES.len()],
     refused_cells: u64,
     left_out: u64,
+    pub zero_columns: zero_columns::Counts,
 }
 
 impl Tally {
@@ -85,6 +87,7 @@ impl Tally {
             println!("cells: {case:<9}          {count:>9}");
         }
         println!("cells of refused tables   {:>9}", self.refused_cells);
+        self.zero_columns.print();
         println!("cells left out            {:>9}  their names are not UTF-8, or hold U+FFFD", self.left_out);
     }
 }
