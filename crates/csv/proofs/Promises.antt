@@ -6,12 +6,10 @@ use Prim.Native.Nat.{ℕ, zero, suc, _+_, _≤_}
 use native.Mathlib.Omega.{arith}
 use lib.ListN.{length, take, drop}
 use lib.Seq.{sets-eq, take-at}
-use lib.Dec.{eqb, ltb}
-use borrow.Author.Tests.{eqb-false, ltb-false}
-use Rattle.refusal.specs.declared.Cause.the-variants.{ShortRoom}
-use Rattle.written.specs.declared.Written.{Written}
-use Rattle.written.specs.declared.Written.the-variants.{Size, Refused}
-use Rattle.written.specs.Written.{writtenIn}
+use lib.Dec.{eqb}
+use borrow.Author.Tests.{eqb-false}
+use Rattle.written.specs.declared.Written.the-variants.{Size}
+use Rattle.written.proofs.RoomLaws.{planned-so}
 use Rattle.reading.specs.declared.TableMode.{TableMode}
 use Rattle.layout.specs.declared.Layout.{Layout}
 use Rattle.layout.specs.Layouts.{bodyOf}
@@ -62,18 +60,15 @@ at-some bytes place m = in-some (drop place bytes) (tableAt bytes place m)
 
 -- ---- a size that is answered is that of the CSV, which has room
 
-has-room : (room n size : ℕ) (x : TableAnswer) → Size size ≡ writtenIn room (toWrite n x) → (n ≡ size) × (n ≤ room)
-has-room room n size (Table l) e = go (ltb room n) refl e
-  where
-    go : (t : Bool) → ltb room n ≡ t → Size size ≡ cond t (Refused (record { cause = ShortRoom n; place = 0 })) (Size n) → (n ≡ size) × (n ≤ room)
-    go true h e = let z : _≡_ {A = ℕ} 0 1 = cc in absurd (omega arith)
-    go false h e = (cc, ltb-false room n h)
-has-room room n size (NoTable refusal) e = let z : _≡_ {A = ℕ} 0 1 = cc in absurd (omega arith)
+to-write : (n size : ℕ) (x : TableAnswer) → toWrite n x ≡ Size size → n ≡ size
+to-write n size (Table l) e = cc
+to-write n size (NoTable refusal) e = let z : _≡_ {A = ℕ} 0 1 = cc in absurd (omega arith)
 
 pub ReadingBack : promised.ReadingBack
 ReadingBack bytes place m out out′ size w =
     let csv = csvOf (textsAt bytes place m) in
-    let fits = has-room (length out) (length csv) size (tableAt bytes place m) (w .0) in
-    let room : 0 + length csv ≤ length out = omega (arith, fits .1) in
-    let front : take size out′ ≡ csv = ap (take size) (w .1 ∙ sets-eq csv out 0 room) ∙ take-at csv (drop (0 + length csv) out) size (fits .0) in
+    let planned = planned-so (length out) (toWrite (length csv) (tableAt bytes place m)) size (sym (w .0)) in
+    let sized = to-write (length csv) size (tableAt bytes place m) (planned .0) in
+    let room : 0 + length csv ≤ length out = omega (arith, planned .1) in
+    let front : take size out′ ≡ csv = ap (take size) (w .1 ∙ sets-eq csv out 0 room) ∙ take-at csv (drop (0 + length csv) out) size sized in
     ap recordsIn front ∙ FieldsReadBack (textsAt bytes place m) (at-some bytes place m)
