@@ -11,7 +11,7 @@ use usm::Streams;
 use crate::films::{Source, make_room};
 use crate::key;
 use crate::names::Shown;
-use crate::output::{About, NotDone, Output, as_string, not_begun, say, tell, write_all};
+use crate::output::{About, NotDone, Output, as_some_string, as_string, not_begun, say, tell, write_all};
 use crate::pair::Pair;
 use crate::progress::{Meter, Progress};
 use crate::trouble::{Status, Trouble};
@@ -67,22 +67,23 @@ impl Pack {
         if matches!((&video, &audio), (Source::StandardInput, Some(Source::StandardInput))) {
             return say(Status::Trouble, "standard input can't be both streams");
         }
-        match self.pack(key, &video, audio.as_ref()) {
+        let sources = [Some(video), audio];
+        let total: Option<u64> = sources.iter().flatten().map(Source::length).sum();
+        let progress = Progress::new(total);
+        let packed = self.pack(key, &sources, &Meter::new(&progress, 2, total.unwrap_or(0)));
+        progress.end();
+        match packed {
             Ok(sizes) => write_all(|output| self.tell(&sizes, output)),
             Err(trouble) => self.not_done(trouble),
         }
     }
 
-    /// Reads the streams, writes the film, and gives it its name.
-    fn pack(&self, key: Option<u64>, video: &Source, audio: Option<&Source>) -> Result<Sizes, Trouble> {
-        let sources = [Some(video), audio];
-        let total: Option<u64> = sources.iter().flatten().map(|source| source.length()).sum();
-        let progress = Progress::new(total);
-        let meter = Meter::new(&progress, 2, total.unwrap_or(0));
+    /// Reads video and audio, writes the film, and gives it its name.
+    fn pack(&self, key: Option<u64>, sources: &[Option<Source>; 2], meter: &Meter) -> Result<Sizes, Trouble> {
         let mut streams = [const { Vec::new() }; 2];
-        for (source, stream) in sources.into_iter().zip(&mut streams) {
+        for (source, stream) in sources.iter().zip(&mut streams) {
             if let Some(source) = source {
-                source.read(stream, &meter).map_err(|trouble| trouble.of(source.label()))?;
+                source.read(stream, meter).map_err(|trouble| trouble.of(source.label()))?;
             }
         }
         let [video, audio] = &streams;
@@ -94,10 +95,8 @@ impl Pack {
         make_room(&mut film, usm::packed_size(packed)?)?;
         usm::pack_into(packed, key, &mut film)?;
         let mut pair = Pair::default();
-        pair.write(self.output.clone(), &film, &meter)?;
+        pair.write(self.output.clone(), &film, meter)?;
         pair.place(self.force)?;
-        drop(meter);
-        progress.end();
         Ok(Sizes { film: film.len(), video: video.len(), audio: self.audio.as_ref().map(|_| audio.len()) })
     }
 
@@ -122,18 +121,12 @@ impl Pack {
     fn not_done(&self, trouble: Trouble) -> Status {
         let told =
             write_all(|output| if self.json { output.object(&NotDone::new(&self.output, &trouble)) } else { Ok(()) });
-        let trouble = match trouble {
-            Trouble::Refused(refusal) => {
-                return say(Status::Refused, &at(&self.output, &refusal.to_string())).max(told);
-            }
-            trouble => trouble,
+        let status = match trouble {
+            Trouble::Refused(refusal) => say(Status::Refused, &format!("{}: {refusal}", Shown::path(&self.output))),
+            trouble => not_begun(trouble),
         };
-        not_begun(trouble).max(told)
+        status.max(told)
     }
-}
-
-fn at(path: &Path, what: &str) -> String {
-    format!("{}: {what}", Shown::path(path))
 }
 
 fn source(path: &Path) -> Source {
@@ -146,7 +139,7 @@ struct Sizes {
     film: usize,
     #[serde(serialize_with = "as_string")]
     video: usize,
-    #[serde(serialize_with = "crate::output::as_some_string")]
+    #[serde(serialize_with = "as_some_string")]
     audio: Option<usize>,
 }
 

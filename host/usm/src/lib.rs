@@ -26,7 +26,8 @@
 //! | pack streams into a film | [`pack`], [`pack_into`] |
 //!
 //! Every film, damaged or hostile, has an answer: a result or a [`Refusal`] with a number, a place and a reason. No
-//! input panics, and no memory is asked for beyond the film's own length and 24 bytes for each chunk of a list.
+//! input panics. Of memory both streams together take no more than the film's own length, and a list 24 bytes for each
+//! chunk; what is written takes as many bytes as a call tells before.
 //!
 //! The feature `cridecoder` has a module with the names and signatures of that crate.
 #![deny(unsafe_code)]

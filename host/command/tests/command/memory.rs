@@ -32,6 +32,18 @@ fn an_extraction_takes_film_and_streams() {
 }
 
 #[test]
+fn packing_takes_film_and_streams() {
+    let folder = Folder::new();
+    folder.write("video", &vec![1; 150 * MIB]);
+    folder.write("audio", &vec![2; 50 * MIB]);
+    let most = 2 * 201 * MIB + 64 * MIB;
+    assert_eq!(with_memory(&folder, most, "pack video audio -o film.usm -k 1 --audio-codec 2"), (0, String::new()));
+    let (status, err) = with_memory(&folder, 250 * MIB, "pack video audio -o other.usm");
+    assert_eq!(status, 2);
+    assert!(err.starts_with("usm: no memory for "), "{err}");
+}
+
+#[test]
 fn a_list_takes_24_bytes_a_chunk() {
     let folder = Folder::new();
     let mut film = Film::new(&Header::default());
