@@ -6,6 +6,7 @@ use clap::Args;
 use serde::Serialize;
 use usm::{Audio, Outline, Reading};
 
+use crate::choice::Choice;
 use crate::crew::{self, Film, Task, Turn};
 use crate::films::{Films, make_room};
 use crate::key;
@@ -31,9 +32,8 @@ pub struct Extract {
     /// The key, 1 to 16 hex digits
     #[arg(long, short, value_name = "KEY")]
     key: Option<String>,
-    /// Leave audio out: it is not even checked
-    #[arg(long)]
-    no_audio: bool,
+    #[command(flatten)]
+    choice: Choice,
     #[command(flatten)]
     placing: Placing,
 }
@@ -48,8 +48,7 @@ impl Extract {
             Ok(files) => files,
             Err(trouble) => return not_begun(trouble),
         };
-        let audio = if self.no_audio { Audio::None } else { Audio::All };
-        let extraction = Extraction { key, reading: Reading::default().with_audio(audio), files, told: self };
+        let extraction = Extraction { key, reading: self.choice.reading(), files, told: self };
         crew::run(&extraction, &extraction.told.films)
     }
 }
@@ -96,7 +95,7 @@ impl Extraction {
         let name = outline.name.and_then(safe).unwrap_or_else(|| stem(label));
         let mut targets = vec![self.files.target(label, &format!("{name}.{}", outline.video.kind))];
         if let Some(track) = &outline.audio
-            && !self.told.no_audio
+            && self.reading.audio != Audio::None
         {
             targets.push(self.files.target(label, &format!("{name}.{}", track.kind)));
         }

@@ -4,8 +4,9 @@ use std::collections::BTreeMap;
 
 use clap::Args;
 use serde::Serialize;
-use usm::{Chunk, ChunkKind, Chunks, Outline, Reading, Track};
+use usm::{Chunk, ChunkKind, Chunks, Outline, Track};
 
+use crate::choice::Choice;
 use crate::crew::{self, Film, Task, Turn};
 use crate::films::Films;
 use crate::list::listed;
@@ -21,6 +22,8 @@ use crate::trouble::{Status, Trouble};
 pub struct Info {
     #[command(flatten)]
     films: Films,
+    #[command(flatten)]
+    choice: Choice,
 }
 
 impl Info {
@@ -31,8 +34,9 @@ impl Info {
 
 impl Task for Info {
     fn film<'a>(&'a self, film: Film<'a, '_>, turn: &Turn<'a, '_>) -> Result<(), Trouble> {
-        let outline = usm::outline(film.bytes, Reading::default())?;
-        let facts = Facts::of(&outline, &listed(film.bytes, Reading::default())?);
+        let reading = self.choice.reading();
+        let outline = usm::outline(film.bytes, reading)?;
+        let facts = Facts::of(&outline, &listed(film.bytes, reading)?);
         let mut told = turn.take();
         if self.films.json {
             told.object(&Object::of(&film, &outline, &facts))

@@ -5,8 +5,9 @@ use std::path::Path;
 use clap::Args;
 use serde::ser::SerializeSeq;
 use serde::{Serialize, Serializer};
-use usm::{Audio, Chunk, Chunks, Reading};
+use usm::{Chunk, Chunks, Reading};
 
+use crate::choice::Choice;
 use crate::crew::{self, Film, Task, Turn};
 use crate::films::Films;
 use crate::names::Shown;
@@ -24,9 +25,8 @@ pub struct List {
     /// Write CSV: a line for each chunk, with its film in front
     #[arg(long, conflicts_with = "json")]
     csv: bool,
-    /// Leave audio out: it is not even checked
-    #[arg(long)]
-    no_audio: bool,
+    #[command(flatten)]
+    choice: Choice,
 }
 
 impl List {
@@ -37,8 +37,7 @@ impl List {
 
 impl Task for List {
     fn film<'a>(&'a self, film: Film<'a, '_>, turn: &Turn<'a, '_>) -> Result<(), Trouble> {
-        let audio = if self.no_audio { Audio::None } else { Audio::All };
-        let chunks = listed(film.bytes, Reading::default().with_audio(audio))?;
+        let chunks = listed(film.bytes, self.choice.reading())?;
         let mut told = turn.take();
         if self.films.json {
             told.object(&Object { about: About::new(film.label), chunks: InOrder(&chunks) })

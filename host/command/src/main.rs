@@ -4,6 +4,7 @@
 //! turn (`crew`), and what is written where (`output`, `names`, `pair`, `placing`).
 #![forbid(unsafe_code)]
 
+mod choice;
 mod completions;
 mod crew;
 mod extract;

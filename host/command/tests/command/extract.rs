@@ -1,6 +1,6 @@
 use std::fs;
 
-use crate::support::{Folder, KEY, SmallDisk, example, named, names};
+use crate::support::{Folder, KEY, SmallDisk, dubbed, example, named, names};
 
 const BOTH: &str = "song.usm\nvideo  1453 bytes: ./lark.m2v\naudio  736 bytes: ./lark.adx\n";
 
@@ -11,6 +11,23 @@ fn both_streams_under_a_key() {
     assert_eq!(folder.read("lark.m2v"), example("song.video"));
     assert_eq!(folder.read("lark.adx"), example("song.audio"));
     assert_eq!(folder.names(), ["cut.usm", "empty.usm", "f.usm", "lark.adx", "lark.m2v", "song.usm"]);
+}
+
+#[test]
+fn audio_of_one_channel() {
+    let folder = Folder::new();
+    folder.write("film.usm", &dubbed());
+    for channel in ["0", "1", "2"] {
+        folder.usm(&["extract", "-q", "film.usm", "--channel", channel, "-o", channel]).expect(0, "", "");
+    }
+    assert_eq!(folder.read("0/film.adx"), b"english english");
+    assert_eq!(folder.read("1/film.adx"), b"francais...francais...");
+    assert_eq!(folder.read("2/film.adx"), b"");
+    assert_eq!(folder.usm(&["extract", "-q", "film.usm", "-o", "all"]).status, 0);
+    assert_eq!(folder.read("all/film.adx"), b"english francais...englishfrancais...");
+    let info = folder.usm(&["info", "--channel", "1", "film.usm"]).out;
+    assert!(info.contains("audio   adx, codec 2, 22 bytes, closed\n"), "{info}");
+    assert!(info.contains("        audio  channel 0: 2, 0 bytes\n        audio  channel 1: 2, 22 bytes\n"), "{info}");
 }
 
 #[test]

@@ -1,6 +1,6 @@
 use films::{Film, Header};
 
-use crate::support::Folder;
+use crate::support::{Folder, dubbed};
 
 const F: &str = "\
 f.usm: 2 chunks
@@ -18,6 +18,17 @@ fn chunks_in_their_order() {
     assert_eq!(run.out.lines().count(), 10);
     assert!(run.out.contains("\n  2080  audio     1        0     336\n"), "{}", run.out);
     assert!(folder.usm(&["list", "--no-audio", "song.usm"]).out.contains("\n  2080  audio     1        0       0\n"));
+}
+
+#[test]
+fn audio_of_one_channel() {
+    let folder = Folder::new();
+    folder.write("film.usm", &dubbed());
+    let run = folder.usm(&["list", "--csv", "--channel", "1", "film.usm"]);
+    let lengths: Vec<&str> = run.out.lines().skip(1).map(|line| line.rsplit(',').next().unwrap()).collect();
+    assert_eq!(lengths, ["7", "0", "11", "0", "11", "0", "0"]);
+    assert_eq!(folder.usm(&["list", "--channel", "256", "film.usm"]).status, 2);
+    assert_eq!(folder.usm(&["list", "--channel", "1", "--no-audio", "film.usm"]).status, 2);
 }
 
 #[test]

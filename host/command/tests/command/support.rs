@@ -130,6 +130,19 @@ pub fn named(name: &[u8], video: &[u8], audio: &[u8]) -> Vec<u8> {
     film.bytes
 }
 
+/// A film with ADX audio in two languages, on channels 0 and 1 by turns.
+pub fn dubbed() -> Vec<u8> {
+    let mut film = Film::new(&Header { audio: Some(Some(2)), ..Header::default() });
+    film.chunk(b"@SFV", 0, 0, b"picture");
+    for english in [&b"english "[..], b"english"] {
+        film.chunk(b"@SFA", 0, 0, english);
+        film.chunk(b"@SFA", 1, 0, b"francais...");
+    }
+    film.end(b"@SFV");
+    film.end(b"@SFA");
+    film.bytes
+}
+
 pub fn is_root() -> bool {
     fs::metadata("/proc/self").is_ok_and(|own| std::os::unix::fs::MetadataExt::uid(&own) == 0)
 }
