@@ -21,7 +21,7 @@ const WALKS: [(&str, Walk); 3] = [("measure", sizes), ("count", count), ("usm_li
 /// Times all, and prints the times.
 pub fn run() {
     let [short, long] = [SHORT, LONG].map(|bytes| with_count(bytes, COUNT));
-    let nothing = exports::record(&Chunk { start: 0, kind: Kind::Other, data_type: 0, length: 0 });
+    let nothing = exports::record(&Chunk { start: 0, kind: Kind::Other, data_type: 0, channel: 0, length: 0 });
     let mut records = vec![nothing; COUNT + 1];
     println!("{} chunks in containers of two lengths, in nanoseconds for one call", COUNT + 1);
     println!("NAME {SHORT} {LONG}");
