@@ -468,7 +468,7 @@ struct usm_salvage_reply usm_salvage(const uint8_t *container, size_t len);
  *
  * Of the numbers it gives those of a table, at `place`, and then USM_SHORT_ROOM, at 0. The work is at
  * most in proportion to the table and to the size that is replied, also beside USM_SHORT_ROOM. Rows can
- * share one long string, so a table of 16,384 bytes can have a CSV of some 245,000,000: ask for the size
+ * share one long string, so a table of 16,384 bytes can have a CSV of over 500,000,000: ask for the size
  * first, and decide.
  */
 struct usm_size_reply usm_csv(const uint8_t *bytes, size_t len, size_t place,
