@@ -474,6 +474,45 @@ struct usm_salvage_reply usm_salvage(const uint8_t *container, size_t len);
 struct usm_size_reply usm_csv(const uint8_t *bytes, size_t len, size_t place,
                               struct usm_reading reading, uint8_t *out, size_t out_len);
 
+/*
+ * Jumping. An index keeps, for each video payload of a film, where it begins in the video stream and in
+ * which chunk it stands, so that a byte of the stream is found without a walk over the film.
+ */
+
+/* An entry of an index. 24 bytes. */
+struct usm_index_entry {
+    uint64_t place;       /* where the payload begins in the video stream */
+    uint64_t chunk;       /* where its chunk starts in the container */
+    uint64_t length;      /* how many bytes the payload has */
+};
+
+/*
+ * Fills the first entries of `index`, which has `room` of them, with those of the film's video payloads
+ * in their order, empty ones too; entries past them are unchanged. The reply is that of a listing, with
+ * the count of the entries. The film is read in the Rust's modes, without audio: what is refused there
+ * is refused here, and then USM_SHORT_LIST, with the count; the index is unchanged then. Lend it with
+ * length 0 to learn the count (a film without a video payload is accepted then). An index that is built
+ * again is identical (proved).
+ */
+struct usm_list_reply usm_index(const uint8_t *container, size_t len, struct usm_index_entry *index,
+                                size_t room);
+
+/* The reply on a jump. 24 bytes. Past the end all is 0. */
+struct usm_seek_reply {
+    uint64_t chunk;       /* where the chunk starts in the container */
+    uint64_t offset;      /* the byte's offset in the chunk's payload */
+    uint8_t found;        /* 1, or 0 for past the end */
+};
+
+/*
+ * Where byte `byte` of the video stream stands, by the `count` entries at `index`. By the entries that
+ * usm_index filled, it is the byte that usm_extract writes there without a key, and a byte at or above
+ * the stream's size is past the end; an empty payload never answers (proved). Other entries have an
+ * answer too: that of the last entry that is found, by halving, to begin at or before the byte. Fewer
+ * than 2^k entries take k steps (proved).
+ */
+struct usm_seek_reply usm_seek(const struct usm_index_entry *index, size_t count, uint64_t byte);
+
 #ifdef __cplusplus
 }
 #endif

@@ -75,13 +75,13 @@ module _ (stream : Stream) (container : List ℕ) (size : ℕ) (out out′ : Lis
 module _ (container : List ℕ) (reading : Reading) (header : Header) (applied : Applied) (chunks : List Chunk)
     (f : filmOf container reading ≡ film header applied chunks) where
   -- the chunks of a film are those of the walk from where its header says
-  its-walk : walkFrom container applied (header .start) .chunks ≡ chunks
+  pub its-walk : walkFrom container applied (header .start) .chunks ≡ chunks
   its-walk =
       let s : film header applied chunks ≡ film header applied (walkFrom container applied (header .start) .chunks) =
       sym f ∙ its-film container reading header applied (length chunks) (videoSize chunks) (audioSize chunks) (ap surveyOf f) in
       cc
 
-  its-length : (stream : Stream) → length (joined (pieceOf stream container) chunks) ≡ sizeOf (stream .share) chunks
+  pub its-length : (stream : Stream) → length (joined (pieceOf stream container) chunks) ≡ sizeOf (stream .share) chunks
   its-length stream = rw its-walk at (stream-length stream container applied (header .start))
 
   pub both-hold : (key : Key) (video audio videoAfter audioAfter : List ℕ) (contents : Contents)

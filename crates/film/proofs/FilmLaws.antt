@@ -36,6 +36,10 @@ film-ended : (header h : Header) (applied k : Applied) (chunks : List Chunk) (en
 film-ended header h applied k chunks clean count video audio e = (cc, cc, refl)
 film-ended header h applied k chunks (stopped refusal) count video audio e = let z : _≡_ {A = ℕ} 0 1 = cc in absurd (omega arith)
 
+by-refusal : (refusal : Refusal) (f : Film) → surveyOf f ≡ survey.Refused refusal → f ≡ refused refusal
+by-refusal refusal (film header applied chunks) e = let z : _≡_ {A = ℕ} 0 1 = cc in absurd (omega arith)
+by-refusal refusal (refused other) e = cc
+
 module _ (container : List ℕ) (reading : Reading) where
   abbrev appliedIn : Header → Applied
   appliedIn header = appliedTo (header .audio) reading
@@ -86,3 +90,6 @@ module _ (container : List ℕ) (reading : Reading) where
       → Accepted header applied (filmOf container reading)
   unfolding filmOf
   surveyed-film header applied count video audio e = film-after header applied count video audio (headerOf container reading) e
+
+  pub surveyed-refusal : (refusal : Refusal) → surveyOf (filmOf container reading) ≡ survey.Refused refusal → filmOf container reading ≡ refused refusal
+  surveyed-refusal refusal e = by-refusal refusal (filmOf container reading) e

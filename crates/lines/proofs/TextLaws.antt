@@ -2,7 +2,6 @@
 use mathlib.Core.Path.{_≡_, sym, ap, _∙_}
 use mathlib.Core.List.{List}
 use Prim.Native.Nat.{ℕ, _≤_, _<_}
-use native.Mathlib.Omega.{arith}
 use lib.ListN.{length}
 use borrow.Author.Tests.{lt-ltb, le-ltb}
 use Rattle.refusal.specs.declared.Cause.the-variants.{TooLong}
@@ -14,8 +13,8 @@ use Rattle.reading.specs.declared.Applied.{Applied}
 use Rattle.walk.specs.Walks.{walkFrom}
 use Rattle.header.specs.declared.Header.{Header}
 use Rattle.film.specs.declared.Surveyed.the-variants as survey
-use Rattle.film.specs.Films.{Film, film, refused, filmOf, surveyOf}
-use Rattle.film.proofs.FilmLaws.{surveyed-film}
+use Rattle.film.specs.Films.{filmOf, surveyOf}
+use Rattle.film.proofs.FilmLaws.{surveyed-film, surveyed-refusal}
 use Rattle.lines.specs.Lines.{linesOf, refusalLine, filmText, textOf}
 
 module _ (container : List ℕ) where
@@ -35,8 +34,4 @@ module _ (container : List ℕ) where
   accepted h header applied count video audio e = sym (not-too-long h ∙ ap filmText (surveyed-film container chosen header applied count video audio e))
 
   pub not-accepted : length container ≤ 16384 → (refusal : Refusal) → surveyOf (filmOf container chosen) ≡ survey.Refused refusal → refusalLine refusal ≡ textOf container
-  not-accepted h refusal e = sym (not-too-long h ∙ ap filmText (by-film refusal (filmOf container chosen) e))
-    where
-      by-film : (refusal : Refusal) (f : Film) → surveyOf f ≡ survey.Refused refusal → f ≡ refused refusal
-      by-film refusal (film header applied chunks) e = let z : _≡_ {A = ℕ} 0 1 = cc in absurd (omega arith)
-      by-film refusal (refused other) e = cc
+  not-accepted h refusal e = sym (not-too-long h ∙ ap filmText (surveyed-refusal container chosen refusal e))

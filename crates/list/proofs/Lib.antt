@@ -1,3 +1,4 @@
 pub mod FillLaws
+pub mod ReplyLaws
 pub mod OneAnswer
 pub mod Promises

@@ -11,6 +11,8 @@ use Rattle.usm.proofs.usm_table.Reads as usm-table
 use Rattle.usm.proofs.usm_cell.Reads as usm-cell
 use Rattle.usm.proofs.usm_extract.Reads as usm-extract
 use Rattle.usm.proofs.usm_list as usm-list
+use Rattle.usm.proofs.jumps.usm_index.Reads as usm-index
+use Rattle.usm.proofs.jumps.usm_seek.Reads as usm-seek
 use Rattle.usm.proofs.writing.usm_write.Reads as usm-write
 use Rattle.usm.proofs.salvaging.usm_salvage.Reads as usm-salvage
 use Rattle.usm.proofs.tables.usm_csv.Reads as usm-csv
@@ -50,3 +52,10 @@ module _ (κs : Lfts 2) (args : ArgsD usm-list.signature κs) (r : ResD usm-list
 pub usm-list-once : (κs : _) (args : _) (r r′ : _) (exit exit′ : _) → ListLearnt κs args r exit → ListLearnt κs args r′ exit′
     → (r ≡ r′) × (exit .1 .1 .0 .now ≡ exit′ .1 .1 .0 .now)
 usm-list-once κs args r r′ exit exit′ l l′ = (no-second-answer (l .0) (l′ .0), no-second-answer (l .1) (l′ .1))
+
+pub usm-index-once : (κs : _) (args : _) (r r′ : _) (exit exit′ : _) → usm-index.Learnt κs args r exit → usm-index.Learnt κs args r′ exit′
+    → (r ≡ r′) × (exit .1 .0 .now ≡ exit′ .1 .0 .now)
+usm-index-once κs args r r′ exit exit′ l l′ = (no-second-answer (l .0) (l′ .0), no-second-answer (l .1) (l′ .1))
+
+pub usm-seek-once : (κs : _) (args : _) (r r′ : _) (exit exit′ : _) → usm-seek.Learnt κs args r exit → usm-seek.Learnt κs args r′ exit′ → r ≡ r′
+usm-seek-once κs args r r′ exit exit′ = no-second-answer

@@ -1,7 +1,7 @@
 -- A walk goes by steps, whatever number of chunks its definition allows: each chunk leaves fewer bytes. And what it comes to fits the bytes that are left.
 -- Assumes nothing.
 use mathlib.Core.Path.{_≡_, refl, sym, ap, _∙_}
-use mathlib.Core.List.{List, [], _∷_}
+use mathlib.Core.List.{List, [], _∷_, _++_}
 use Prim.Native.Nat.{ℕ, zero, suc, _+_, _-_, _≤_, _<_}
 use native.Mathlib.Omega.{arith}
 use lib.ListN.{length}
@@ -112,3 +112,23 @@ module _ (container : List ℕ) (reading : Applied) where
 
   pub count-fits : (c : ℕ) → length (walkFrom container reading c .chunks) ≤ length container - c
   count-fits c = every-walk container reading Fits none-fits one-more-fits c .1
+
+-- ---- every chunk of a walk is found where it starts
+
+module _ (container : List ℕ) (reading : Applied) where
+  abbrev Stand : ℕ → List Chunk → Type 0
+  Stand c chunks = (before after : List Chunk) (chunk : Chunk) → chunks ≡ before ++ chunk ∷ after → chunkAt container reading (chunk .start) ≡ Found chunk
+
+  none-stands : (c : ℕ) → Stand c []
+  none-stands c [] after chunk s = let z : _≡_ {A = ℕ} 0 1 = cc in absurd (omega arith)
+  none-stands c (first ∷ before) after chunk s = let z : _≡_ {A = ℕ} 0 1 = cc in absurd (omega arith)
+
+  one-more-stands : (c : ℕ) (chunk : Chunk) (chunks : List Chunk) → chunkAt container reading c ≡ Found chunk → Stand (chunk .next) chunks → Stand c (chunk ∷ chunks)
+  one-more-stands c chunk chunks e rest [] after it s =
+      let same : chunk ≡ it = cc in
+      let at : c ≡ it .start = sym (found container reading c chunk e .start) ∙ ap (λ (k : Chunk). k .start) same in
+      rw at at (e ∙ ap Found same)
+  one-more-stands c chunk chunks e rest (first ∷ before) after it s = rest before after it (cc)
+
+  pub stands-at-its-start : (c : ℕ) (before after : List Chunk) (chunk : Chunk) → walkFrom container reading c .chunks ≡ before ++ chunk ∷ after → chunkAt container reading (chunk .start) ≡ Found chunk
+  stands-at-its-start = every-walk container reading Stand none-stands one-more-stands

@@ -20,7 +20,7 @@ pub enum Measured {
 }
 
 // How much of a payload goes to video.
-fn video_in(kind: Kind, len: usize) -> usize
+pub fn video_in(kind: Kind, len: usize) -> usize
     ensures { λ r. ⌜ r ≡ videoIn kind len ⌝ }
 {
     match kind {

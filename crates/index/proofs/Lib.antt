@@ -1,0 +1,4 @@
+pub mod EntryLaws
+pub mod IndexLaws
+pub mod OneAnswer
+pub mod Promises

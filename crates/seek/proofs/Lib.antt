@@ -1,0 +1,4 @@
+pub mod HalvingLaws
+pub mod SeekLaws
+pub mod OneAnswer
+pub mod Promises
