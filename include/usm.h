@@ -513,6 +513,32 @@ struct usm_seek_reply {
  */
 struct usm_seek_reply usm_seek(const struct usm_index_entry *index, size_t count, uint64_t byte);
 
+/*
+ * The delivery profile: whether a film is plain. The film is read in the Rust's modes, with audio taken;
+ * what is refused there is refused here, before any rule is tried. The rules, in their order:
+ *
+ *     1   a chunk's header size is 0x18
+ *     2   a chunk's block size plus 8 is a multiple of 0x20
+ *     3   each stream that the film has is closed by exactly one end chunk of its letters, and no chunk
+ *         of those letters follows it; video is always there, audio where the header says so
+ *     4   no chunk has letters other than @SFV and @SFA
+ *
+ * What usm_write writes is always plain (proved).
+ */
+
+/* The reply on the profile. 24 bytes. */
+struct usm_profile_reply {
+    size_t refused_at;
+    size_t place;         /* the start of the first chunk that breaks a rule; the container's length where
+                             an end is missing. 0 where the film is plain or refused */
+    uint8_t number;
+    uint8_t unknown_type;
+    uint8_t rule;         /* the first rule that this chunk breaks; 0 where the film is plain or refused */
+    uint8_t stream;       /* of rule 3 the stream: USM_CHUNK_VIDEO or USM_CHUNK_AUDIO; 0 of the others */
+};
+
+struct usm_profile_reply usm_profile(const uint8_t *container, size_t len);
+
 #ifdef __cplusplus
 }
 #endif

@@ -155,10 +155,10 @@ module _ (name video audio : List ℕ) (packing : Packing) (n : ℕ) (accepted :
 
   -- ---- its chunks
 
-  chunks-from : From container start (bytesOf (map (blockFor by) (items video audio)) ++ bytesOf (inEach (packing .audio) (λ stream. markerOf contentsEnd)))
+  pub chunks-from : From container start (bytesOf (map (blockFor by) (items video audio)) ++ bytesOf (inEach (packing .audio) (λ stream. markerOf contentsEnd)))
   chunks-from = from-as (reads .from) start-is (ap (λ (blocks : List Block). bytesOf blocks ++ bytesOf (endBlocks packing)) (blocks-are by video audio))
 
-  good : (t : Bool) → packing .audio ≡ t → AllGood applied (items video audio)
+  pub good : (t : Bool) → packing .audio ≡ t → AllGood applied (items video audio)
   good true e = both-good applied video audio (ap (λ (b : Bool). takesChannel (appliedTo b reading .audio) 0) e ∙ chosen) (accepted .unmarked)
   good false e =
       subst (λ (a : List ℕ). AllGood applied (items video a)) (sym (silent e))
@@ -167,7 +167,7 @@ module _ (name video audio : List ℕ) (packing : Packing) (n : ℕ) (accepted :
   abbrev pub chunks : List Chunk
   chunks = chunksFrom start (linesOf video audio (packing .audio))
 
-  chunks-are : chunksFrom start (map lineOf (items video audio) ++ endLines (packing .audio)) ≡ chunks
+  pub chunks-are : chunksFrom start (map lineOf (items video audio) ++ endLines (packing .audio)) ≡ chunks
   chunks-are = ap (λ (lines : List Line). chunksFrom start (lines ++ endLines (packing .audio))) (sym (lines-are video audio))
 
   walked : walkFrom container applied start ≡ record { chunks = chunks; ending = clean }

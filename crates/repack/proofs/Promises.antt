@@ -44,10 +44,10 @@ module _ (name video audio : List ℕ) (packing : Packing) (out out′ : List �
   so : (plannedOf name video heardOf packing ≡ Size size) × (size ≤ length out)
   so = planned-so (length out) (plannedOf name video heardOf packing) size (sym (w .0))
 
-  taken : Accepted name video heardOf packing size
+  pub taken : Accepted name video heardOf packing size
   taken = accepted name video heardOf packing size (so .0)
 
-  silent : packing .audio ≡ false → heardOf ≡ []
+  pub silent : packing .audio ≡ false → heardOf ≡ []
   silent e = ap (λ (t : Bool). cond t audio []) e
 
   -- the written bytes are the film

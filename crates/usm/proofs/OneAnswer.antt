@@ -13,6 +13,7 @@ use Rattle.usm.proofs.usm_extract.Reads as usm-extract
 use Rattle.usm.proofs.usm_list as usm-list
 use Rattle.usm.proofs.jumps.usm_index.Reads as usm-index
 use Rattle.usm.proofs.jumps.usm_seek.Reads as usm-seek
+use Rattle.usm.proofs.profiles.usm_profile.Reads as usm-profile
 use Rattle.usm.proofs.writing.usm_write.Reads as usm-write
 use Rattle.usm.proofs.salvaging.usm_salvage.Reads as usm-salvage
 use Rattle.usm.proofs.tables.usm_csv.Reads as usm-csv
@@ -59,3 +60,6 @@ usm-index-once κs args r r′ exit exit′ l l′ = (no-second-answer (l .0) (l
 
 pub usm-seek-once : (κs : _) (args : _) (r r′ : _) (exit exit′ : _) → usm-seek.Learnt κs args r exit → usm-seek.Learnt κs args r′ exit′ → r ≡ r′
 usm-seek-once κs args r r′ exit exit′ = no-second-answer
+
+pub usm-profile-once : (κs : _) (args : _) (r r′ : _) (exit exit′ : _) → usm-profile.Learnt κs args r exit → usm-profile.Learnt κs args r′ exit′ → r ≡ r′
+usm-profile-once κs args r r′ exit exit′ = no-second-answer

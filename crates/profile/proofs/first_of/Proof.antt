@@ -1,0 +1,16 @@
+-- `profile::first_of` meets its contract, with audio and without. Assumes nothing.
+use Rattle.profile.specs.Streams.{firstOf}
+use borrow.Author.Needs.{needs}
+use Rattle.profile.proofs.first_of.Statement.{statement}
+use Rattle.profile.proofs.first_of.Tie as tie
+
+returns : tie.Need-returns
+unfolding firstOf
+returns c = rw (c .if1 .taken)
+
+returns-2 : tie.Need-returns-2
+unfolding firstOf
+returns-2 c = rw (c .if1 .left)
+
+pub first-of-spec : {M : Type 1} → statement M
+first-of-spec = tie.close (tie.spec returns returns-2)
