@@ -5,9 +5,10 @@ use mathlib.Core.List.{List, [], _∷_}
 use lib.ListN.{length}
 use lib.Dec.{ltb, eqb}
 use Rattle.laws.specs.Lists.{at}
+use Rattle.key.specs.CountingBits.{countingBits}
 use Rattle.clip.specs.Clips.{clipTells}
 use Rattle.shares.specs.declared.Pick.{Pick}
-use Rattle.shares.specs.declared.Pick.the-variants.{Numbered, Below, Sharing, SharingBelow}
+use Rattle.shares.specs.declared.Pick.the-variants.{Numbered, Below, Sharing, SharingBelow, Differing}
 
 abbrev pub numberIn : List ℕ → ℕ
 numberIn tenant = at tenant 0
@@ -19,12 +20,17 @@ keyIn tenant = at tenant 1
 abbrev pub sharing : ℕ → ℕ → List ℕ → Bool
 sharing bytes key tenant = not (clipTells bytes key (keyIn tenant))
 
+-- and its own key does not agree with that one where it counts
+abbrev pub sharingOtherwise : ℕ → ℕ → List ℕ → Bool
+sharingOtherwise bytes key tenant = not (eqb (countingBits key) (countingBits (keyIn tenant))) && sharing bytes key tenant
+
 -- which tenants are counted
 abbrev pub picked : Pick → List ℕ → Bool
 picked (Numbered number) tenant = eqb (numberIn tenant) number
 picked (Below number) tenant = ltb (numberIn tenant) number
 picked (Sharing bytes key) tenant = sharing bytes key tenant
 picked (SharingBelow bytes key number) tenant = ltb (numberIn tenant) number && sharing bytes key tenant
+picked (Differing bytes key) tenant = sharingOtherwise bytes key tenant
 
 -- how many a test picks
 unfoldable pub counted : (List ℕ → Bool) → List (List ℕ) → ℕ

@@ -6,8 +6,8 @@ ghost use mathlib.Core.List.{[], _∷_};
 ghost use mathlib.Core.Bool.{cond};
 ghost use Prim.Native.Nat.{min, _≤_};
 ghost use lib.ListN.{length};
-ghost use Rattle.shares.specs.declared.Pick.the-variants.{SharingBelow};
-ghost use Rattle.shares.specs.Tenants.{numberIn, sharing, picked, counted, lowest, repeated, areBad, ranked};
+ghost use Rattle.shares.specs.declared.Pick.the-variants.{Numbered, SharingBelow};
+ghost use Rattle.shares.specs.Tenants.{numberIn, keyIn, sharing, sharingOtherwise, picked, counted, lowest, firstOf, repeated, areBad, ranked};
 ghost use Rattle.shares.specs.Shares.{portion, shareOf, lineAt};
 
 // Which tenants are counted.
@@ -20,6 +20,8 @@ enum Pick {
     Sharing { bytes: usize, key: u64 },
     // Those of a lower number among them.
     SharingBelow { bytes: usize, key: u64, number: u64 },
+    // Those of one copy with a key with which theirs does not agree where it counts.
+    Differing { bytes: usize, key: u64 },
 }
 
 // So many tenants at most have a statement.
@@ -45,6 +47,16 @@ fn shares_below(bytes: usize, key: u64, number: u64, tenant: [u64; 2]) -> bool
     false
 }
 
+// Whether a tenant has one copy with a key with which its own does not agree where it counts.
+fn shares_otherwise(bytes: usize, key: u64, tenant: [u64; 2]) -> bool
+    ensures { λ r. ⌜ r ≡ sharingOtherwise bytes key tenant ⌝ }
+{
+    if key::counting_bits(key) == key::counting_bits(tenant[1]) {
+        return false;
+    }
+    shares(bytes, key, tenant)
+}
+
 // Whether a tenant is counted.
 fn picks(pick: Pick, tenant: [u64; 2]) -> bool
     ensures { λ r. ⌜ r ≡ picked pick tenant ⌝ }
@@ -54,6 +66,7 @@ fn picks(pick: Pick, tenant: [u64; 2]) -> bool
         Pick::Below(number) => tenant[0] < number,
         Pick::Sharing { bytes, key } => shares(bytes, key, tenant),
         Pick::SharingBelow { bytes, key, number } => shares_below(bytes, key, number, tenant),
+        Pick::Differing { bytes, key } => shares_otherwise(bytes, key, tenant),
     }
 }
 
@@ -79,6 +92,20 @@ fn count(tenants: &[[u64; 2]], pick: Pick) -> usize
         i += 1;
     }
     n
+}
+
+// How many tenants have one copy with a key.
+pub fn members(tenants: &[[u64; 2]], bytes: usize, key: u64) -> usize
+    ensures { λ r. ⌜ r ≡ counted (sharing bytes key) (now (tenants .entry)) ⌝ }
+{
+    count(tenants, Pick::Sharing { bytes, key })
+}
+
+// How many of them have a key that does not agree with it where it counts.
+pub fn differing(tenants: &[[u64; 2]], bytes: usize, key: u64) -> usize
+    ensures { λ r. ⌜ r ≡ counted (sharingOtherwise bytes key) (now (tenants .entry)) ⌝ }
+{
+    count(tenants, Pick::Differing { bytes, key })
 }
 
 // The smaller of two numbers.
@@ -156,6 +183,21 @@ fn ranked_in(tenants: &[[u64; 2]], rank: usize) -> [u64; 2]
         i += 1;
     }
     [0, 0]
+}
+
+// The key of the first tenant of a number; key 0 where there is none.
+pub fn key_of(tenants: &[[u64; 2]], number: u64) -> u64
+    ensures { λ r. ⌜ r ≡ keyIn (firstOf (picked (Numbered number)) (now (tenants .entry))) ⌝ }
+{
+    let mut i = 0;
+    while i < tenants.len() {
+        let tenant = tenants[i];
+        if tenant[0] == number {
+            return tenant[1];
+        }
+        i += 1;
+    }
+    0
 }
 
 // What the member of a rank bears of a copy of so many bytes; nothing where there are no members.

@@ -27,6 +27,12 @@ enum-known-pick-4 c = search needs
 shares-below-requires : tie.Need-shares-below-requires
 shares-below-requires c κs = search needs
 
+enum-known-pick-5 : tie.Need-enum-known-pick-5
+enum-known-pick-5 c = search needs
+
+shares-otherwise-requires : tie.Need-shares-otherwise-requires
+shares-otherwise-requires c κs = search needs
+
 returns : tie.Need-returns
 returns c = rw (c .before .pick .given .1)
 
@@ -38,6 +44,9 @@ returns-3 c = rw (c .before .before .pick3 .given .1) (c .shares .ensures)
 
 returns-4 : tie.Need-returns-4
 returns-4 c = rw (c .before .before .pick4 .given .1) (c .shares-below .ensures)
+
+returns-5 : tie.Need-returns-5
+returns-5 c = rw (c .before .before .pick5 .given .1) (c .shares-otherwise .ensures)
 
 pub picks-spec : {M : Type 1} → statement M
 picks-spec =
@@ -51,7 +60,10 @@ picks-spec =
     shares-requires
     enum-known-pick-4
     shares-below-requires
+    enum-known-pick-5
+    shares-otherwise-requires
     returns
     returns-2
     returns-3
-    returns-4)
+    returns-4
+    returns-5)
