@@ -112,6 +112,7 @@ void usm_mask_audio(uint64_t key, uint8_t *payload, size_t len);
 #define USM_SHORT_HEADER 17   /* a header size below 0x18, where payloads stand after their headers */
 #define USM_UNKNOWN_STORAGE 18 /* a column's high nibble is none of 1, 3, 5 and 7, where these are the only ones */
 #define USM_NO_BEGINNING 21   /* no beginning of the container is accepted */
+#define USM_BAD_TENANTS 22    /* no tenant, over 16, or a number twice */
 #define USM_CODEC_ALONE 23    /* an audio codec is given, and no audio */
 
 /*
@@ -206,6 +207,8 @@ static inline const char *usm_reason(uint8_t number)
         return "unknown storage of a column";
     case USM_NO_BEGINNING:
         return "no beginning is accepted";
+    case USM_BAD_TENANTS:
+        return "no tenant, over 16 tenants, or a tenant number twice";
     case USM_CODEC_ALONE:
         return "an audio codec without audio";
     default:
@@ -538,6 +541,39 @@ struct usm_profile_reply {
 };
 
 struct usm_profile_reply usm_profile(const uint8_t *container, size_t len);
+
+/*
+ * A statement: which tenants have one copy of a film, and what each bears of it. Request 13.
+ *
+ * Two tenants are in one group exactly when both streams, with all audio taken, are the same byte for byte under
+ * their keys. That is decided from the keys, the audio codec, the data types and the payloads' lengths: no stream is
+ * unpacked. A group has one copy. Its bytes, those of both streams, are divided evenly among the group's tenants; a
+ * remainder goes one byte each to the lowest numbers.
+ */
+
+/* A tenant: its number, which no other tenant of the call has, and its key. 0 is a number, and a key. 16 bytes. */
+struct usm_tenant {
+    uint64_t number;
+    uint64_t key;
+};
+
+/* A line: the tenant's number, the lowest number in its group, and its share of the group's copy in bytes. 24 bytes. */
+struct usm_share {
+    uint64_t tenant;
+    uint64_t group;
+    uint64_t share;
+};
+
+/*
+ * Fills `lines`, which has room for `room` of them, with a line for each tenant, by rising tenant number, whatever
+ * the order of `tenants`. `count` of the reply is the tenants' count, also beside USM_SHORT_LIST. Refusals, in this
+ * order: USM_TOO_LONG; USM_BAD_TENANTS; what the header and the chunks are refused for, with `refused_at`;
+ * USM_SHORT_LIST. A refusal leaves `lines` as they were, and lines past the count are unchanged. `lines` overlaps
+ * neither the container nor `tenants`.
+ */
+struct usm_list_reply usm_statement(const uint8_t *container, size_t len,
+                                    const struct usm_tenant *tenants, size_t tenant_count,
+                                    struct usm_share *lines, size_t room);
 
 #ifdef __cplusplus
 }

@@ -17,6 +17,7 @@ use Rattle.usm.proofs.profiles.usm_profile.Reads as usm-profile
 use Rattle.usm.proofs.writing.usm_write.Reads as usm-write
 use Rattle.usm.proofs.salvaging.usm_salvage.Reads as usm-salvage
 use Rattle.usm.proofs.tables.usm_csv.Reads as usm-csv
+use Rattle.usm.proofs.stating.usm_statement.Reads as usm-statement
 
 pub usm-table-once : (κs : _) (args : _) (r r′ : _) (exit exit′ : _) → usm-table.Learnt κs args r exit → usm-table.Learnt κs args r′ exit′ → r ≡ r′
 usm-table-once κs args r r′ exit exit′ = no-second-answer
@@ -38,6 +39,10 @@ usm-salvage-once κs args r r′ exit exit′ = no-second-answer
 pub usm-csv-once : (κs : _) (args : _) (r r′ : _) (exit exit′ : _) → usm-csv.Learnt κs args r exit → usm-csv.Learnt κs args r′ exit′
     → (r ≡ r′) × (exit .1 .1 .1 .0 .now ≡ exit′ .1 .1 .1 .0 .now)
 usm-csv-once κs args r r′ exit exit′ l l′ = (no-second-answer (l .0) (l′ .0), no-second-answer (l .1) (l′ .1))
+
+pub usm-statement-once : (κs : _) (args : _) (r r′ : _) (exit exit′ : _) → usm-statement.Learnt κs args r exit → usm-statement.Learnt κs args r′ exit′
+    → (r ≡ r′) × (exit .1 .1 .0 .now ≡ exit′ .1 .1 .0 .now)
+usm-statement-once κs args r r′ exit exit′ l l′ = (no-second-answer (l .0) (l′ .0), no-second-answer (l .1) (l′ .1))
 
 -- Of a function over a slice of structs no `Reads` is made. What a caller learns of it is read off its contract here, in the same way.
 module _ (κs : Lfts 2) (args : ArgsD usm-list.signature κs) (r : ResD usm-list.signature κs) (exit : AtExit usm-list.ended κs) where

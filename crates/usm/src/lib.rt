@@ -3,6 +3,7 @@
 mod jumps;
 mod profiles;
 mod salvaging;
+mod stating;
 mod tables;
 pub mod writing;
 
