@@ -1,7 +1,7 @@
 //! Which payloads of films are taken.
 
-use clap::Args;
-use usm::{Audio, Reading};
+use clap::{Args, ValueEnum};
+use usm::{Audio, Payloads, Reading};
 
 /// What commands that take payloads take.
 #[derive(Args)]
@@ -12,6 +12,15 @@ pub struct Choice {
     /// Take audio of this channel alone, 0 to 255: that of the others is not even checked
     #[arg(long, value_name = "CHANNEL", conflicts_with = "no_audio")]
     channel: Option<u8>,
+    /// Where payloads begin: at byte 0x20 of their chunks, as the original has it, or where the chunk's header ends
+    #[arg(long, value_name = "WHERE", value_enum, default_value_t = Start::Original)]
+    payloads: Start,
+}
+
+#[derive(Clone, Copy, ValueEnum)]
+enum Start {
+    Original,
+    AfterHeader,
 }
 
 impl Choice {
@@ -21,6 +30,10 @@ impl Choice {
             None if self.no_audio => Audio::None,
             None => Audio::All,
         };
-        Reading::default().with_audio(audio)
+        let payloads = match self.payloads {
+            Start::Original => Payloads::Original,
+            Start::AfterHeader => Payloads::AfterHeader,
+        };
+        Reading::default().with_audio(audio).with_payloads(payloads)
     }
 }

@@ -1,5 +1,7 @@
 use std::fs;
 
+use films::{Film, Header};
+
 use crate::support::{Folder, KEY, SmallDisk, dubbed, example, named, names};
 
 const BOTH: &str = "song.usm\nvideo  1453 bytes: ./lark.m2v\naudio  736 bytes: ./lark.adx\n";
@@ -28,6 +30,28 @@ fn audio_of_one_channel() {
     let info = folder.usm(&["info", "--channel", "1", "film.usm"]).out;
     assert!(info.contains("audio   adx, codec 2, 22 bytes, closed\n"), "{info}");
     assert!(info.contains("        audio  channel 0: 2, 0 bytes\n        audio  channel 1: 2, 22 bytes\n"), "{info}");
+}
+
+#[test]
+fn payloads_after_longer_headers() {
+    let folder = Folder::new();
+    let mut film = Film::new(&Header::default());
+    let start = film.bytes.len();
+    film.chunk(b"@SFV", 0, 0, b"header, 16 bytesthe picture");
+    film.end(b"@SFV");
+    film.bytes[start + 9] = 0x28;
+    folder.write("film.usm", &film.bytes);
+    let words = ["extract", "-q", "film.usm", "-o"];
+    folder.usm(&[&words[..], &["new", "--payloads", "after-header"]].concat()).expect(0, "", "");
+    assert_eq!(folder.read("new/film.m2v"), b"the picture");
+    folder.usm(&[&words[..], &["old", "--payloads", "original"]].concat()).expect(0, "", "");
+    assert_eq!(folder.read("old/film.m2v"), b"header, 16 ");
+    assert_eq!(folder.usm(&[&words[..], &["old", "--payloads", "elsewhere"]].concat()).status, 2);
+    film.bytes[start + 9] = 0x10;
+    folder.write("short.usm", &film.bytes);
+    let short = format!("usm: short.usm: refused 17 at {start}: a header that is too short\n");
+    folder.usm(&["list", "short.usm", "--payloads", "after-header"]).expect(1, "", &short);
+    assert_eq!(folder.usm(&["list", "short.usm"]).status, 0);
 }
 
 #[test]
