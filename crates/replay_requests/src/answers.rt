@@ -58,6 +58,15 @@ fn jump_line(index: &[[u64; 3]]) -> Line {
     line
 }
 
+// Writes the first entries of a list, and the jumps by them.
+fn write_entries(list: &[[u64; 3]], count: usize) {
+    if list.len() < count {
+        return;
+    }
+    index_line(&list[0..count]).end();
+    jump_line(&list[0..count]).end();
+}
+
 // Writes the index of a film, built into a list, and the jumps by it, or why there is none.
 fn write_jumps(film: &[u8], list: &mut [[u64; 3]]) {
     let reply = index::build(film, list);
@@ -65,12 +74,7 @@ fn write_jumps(film: &[u8], list: &mut [[u64; 3]]) {
         plain_line::refusal_line(reply.number, reply.refused_at).end();
         return;
     }
-    let count = reply.count;
-    if list.len() < count {
-        return;
-    }
-    index_line(&list[..count]).end();
-    jump_line(&list[..count]).end();
+    write_entries(list, reply.count);
 }
 
 // Writes the answers on a film.
