@@ -63,7 +63,7 @@ pub fn run() -> Result<Counts, String> {
 fn plan(random: &mut Random) -> Plan {
     let count = random.pick(&[0, 1, 2, 3, 5, 64]);
     let columns: Vec<Column> = (0..count).map(|_| column(random)).collect();
-    let count = random.pick(&[0, 1, 2, 3, 256]);
+    let count = if random.one_in(200) { 256 } else { random.pick(&[0, 1, 2, 3, 8]) };
     let rows = (0..count).map(|_| row(&columns, random)).collect();
     Plan { columns, rows }
 }
