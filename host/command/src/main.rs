@@ -7,6 +7,7 @@
 mod choice;
 mod completions;
 mod crew;
+mod csv_files;
 mod extract;
 mod films;
 mod info;
@@ -51,6 +52,7 @@ enum Command {
     Table(table::Table),
     Extract(extract::Extract),
     Pack(pack::Pack),
+    Csv(csv_files::Csv),
     #[command(hide = true)]
     Completions(completions::Completions),
 }
@@ -71,6 +73,7 @@ fn run(command: Command) -> Status {
         Command::Table(table) => table.run(),
         Command::Extract(extract) => extract.run(),
         Command::Pack(pack) => pack.run(),
+        Command::Csv(csv) => csv.run(),
         Command::Completions(completions) => completions.run(),
     }
 }

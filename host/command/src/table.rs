@@ -9,6 +9,7 @@ use serde::{Serialize, Serializer};
 use usm::{Cell, Column, Row};
 
 use crate::crew::{self, Film, Task, Turn};
+use crate::csv_files::text_of;
 use crate::films::Films;
 use crate::names::{Hex, Shown};
 use crate::output::{About, AsHex, AsText, Output, as_string, say, tell};
@@ -38,7 +39,7 @@ impl Table {
     }
 }
 
-fn place(word: &str) -> Result<usize, String> {
+pub fn place(word: &str) -> Result<usize, String> {
     let number = match word.strip_prefix("0x").or_else(|| word.strip_prefix("0X")) {
         Some(digits) => usize::from_str_radix(digits, 16),
         None => word.parse(),
@@ -48,6 +49,11 @@ fn place(word: &str) -> Result<usize, String> {
 
 impl Task for Table {
     fn film<'a>(&'a self, film: Film<'a, '_>, turn: &Turn<'a, '_>) -> Result<(), Trouble> {
+        if let (true, Some(place)) = (self.csv, self.at) {
+            let text = film.video;
+            text_of(film.bytes, place, text)?;
+            return turn.take().write_all(text).map_err(Trouble::Output);
+        }
         let tables = match self.at {
             Some(place) => vec![Placed { letters: None, place, table: usm::table(film.bytes, place)? }],
             None => usm::header_tables(film.bytes)?
@@ -61,8 +67,6 @@ impl Task for Table {
         let mut told = turn.take();
         if self.films.json {
             told.object(&Object { about: About::new(film.label), tables: &tables })
-        } else if self.csv {
-            tables.iter().try_for_each(|placed| write_csv(&placed.table, &mut told))
         } else {
             tables.iter().try_for_each(|placed| tell_table(&film, placed, &mut told))
         }
@@ -114,66 +118,6 @@ impl Display for ForPerson<'_> {
             Cell::Data(data) => write!(f, "{} {} bytes", Hex(data), data.len()),
         }
     }
-}
-
-/// Names first, then the rows. A table without columns writes nothing.
-fn write_csv(table: &usm::Table, output: &mut Output) -> Result<(), Trouble> {
-    if table.columns().is_empty() {
-        return Ok(());
-    }
-    let names = table.columns().iter().map(|column| Field::Text(column.name));
-    write_record(names, output).map_err(Trouble::Output)?;
-    for row in table.rows() {
-        write_record(row.cells().map(Field::of), output).map_err(Trouble::Output)?;
-    }
-    Ok(())
-}
-
-/// A field of CSV. The writer of the crate csv puts quotes around a lone empty field, which the RFC does not.
-enum Field<'a> {
-    Text(&'a [u8]),
-    Data(&'a [u8]),
-    Number(String),
-}
-
-impl<'a> Field<'a> {
-    fn of(cell: Cell<'a>) -> Field<'a> {
-        match cell {
-            Cell::Unsigned(number) => Field::Number(number.to_string()),
-            Cell::Signed(number) => Field::Number(number.to_string()),
-            Cell::Float(float) => Field::Number(format!("{:08x}", float.to_bits())),
-            Cell::String(text) => Field::Text(text),
-            Cell::Data(data) => Field::Data(data),
-        }
-    }
-
-    fn write(&self, output: &mut Output) -> std::io::Result<()> {
-        match self {
-            Field::Number(number) => output.write_all(number.as_bytes()),
-            Field::Data(data) => write!(output, "{}", Hex(data)),
-            Field::Text(text) if !text.iter().any(|byte| b",\"\r\n".contains(byte)) => output.write_all(text),
-            Field::Text(text) => {
-                output.write_all(b"\"")?;
-                for part in text.split_inclusive(|&byte| byte == b'"') {
-                    output.write_all(part)?;
-                    if part.ends_with(b"\"") {
-                        output.write_all(b"\"")?;
-                    }
-                }
-                output.write_all(b"\"")
-            }
-        }
-    }
-}
-
-fn write_record<'a>(fields: impl Iterator<Item = Field<'a>>, output: &mut Output) -> std::io::Result<()> {
-    for (number, field) in fields.enumerate() {
-        if number > 0 {
-            output.write_all(b",")?;
-        }
-        field.write(output)?;
-    }
-    output.write_all(b"\r\n")
 }
 
 #[derive(Serialize)]

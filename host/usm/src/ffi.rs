@@ -160,6 +160,8 @@ unsafe extern "C" {
         out: *mut u8,
         out_len: usize,
     ) -> SizeReply;
+    fn usm_csv(bytes: *const u8, len: usize, place: usize, reading: Reading, out: *mut u8, out_len: usize)
+    -> SizeReply;
 }
 
 // SAFETY, for every call below: each pointer and length are those of one slice, or of a vector's room, that is lent to
@@ -270,6 +272,11 @@ pub fn write(name: &[u8], video: &[u8], audio: &[u8], packing: Packing, film: &m
         let [name, video, audio] = [name, video, audio].map(|bytes| (bytes.as_ptr(), bytes.len()));
         usm_write(name.0, name.1, video.0, video.1, audio.0, audio.1, packing, out, room)
     })
+}
+
+/// Writes a table as CSV, likewise.
+pub fn csv(bytes: &[u8], place: usize, text: &mut Vec<u8>) -> SizeReply {
+    fill(text, |out, room| unsafe { usm_csv(bytes.as_ptr(), bytes.len(), place, AS_THE_ORIGINAL, out, room) })
 }
 
 fn fill(output: &mut Vec<u8>, call: impl FnOnce(*mut u8, usize) -> SizeReply) -> SizeReply {

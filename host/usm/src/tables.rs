@@ -1,6 +1,7 @@
 //! @UTF tables. Whether a table is accepted, and a cell by its column's name, come from the proved functions. Going
 //! through all columns and rows of an accepted table is done here, over bytes that are known to be there.
 
+use crate::sized::{fill, filled, size_of};
 use crate::{Refusal, ffi};
 
 /// The bytes of a table's header.
@@ -71,6 +72,28 @@ pub fn table(bytes: &[u8], place: usize) -> Result<Table<'_>, Refusal> {
     Refusal::told(reply.number, reply.refused_at, reply.unknown_type)?;
     let layout = Layout::of(&bytes[place..]);
     Ok(Table { bytes, place, row_count: reply.rows, columns: layout.columns(reply.columns), layout })
+}
+
+/// The table at a place of some bytes as CSV, by RFC 4180: names, then rows. Numbers are decimal, data and the bits of
+/// floats lower-case hex, strings their bytes. Read back by the RFC's rules the fields are the same (proved).
+///
+/// ```
+/// let film = std::fs::read("tests/song.usm")?;
+/// assert_eq!(usm::csv(&film, 32)?, b"filename\r\nsongs/lark.usm\r\n");
+/// # Ok::<(), Box<dyn std::error::Error>>(())
+/// ```
+pub fn csv(bytes: &[u8], place: usize) -> Result<Vec<u8>, Refusal> {
+    filled(|text| ffi::csv(bytes, place, text))
+}
+
+/// The same into a vector, whose contents the text replaces. Where the table is refused the vector stays as it is.
+pub fn csv_into(bytes: &[u8], place: usize, text: &mut Vec<u8>) -> Result<(), Refusal> {
+    fill(text, |text| ffi::csv(bytes, place, text))
+}
+
+/// The bytes of the text that [`csv`] gives. Cells may share a string, so that it can be far longer than the table.
+pub fn csv_size(bytes: &[u8], place: usize) -> Result<usize, Refusal> {
+    size_of(|text| ffi::csv(bytes, place, text))
 }
 
 impl<'a> Table<'a> {

@@ -1,5 +1,6 @@
 //! The command on real files.
 
+mod csv;
 mod extract;
 mod help;
 mod info;

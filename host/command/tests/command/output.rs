@@ -25,6 +25,7 @@ fn a_full_disk_is_an_error() {
         "extract song.usm --force",
         "pack song.usm -o film.usm --force",
         "pack song.usm -o film.usm --force --json",
+        "csv song.usm --force",
         "--help",
         "info --help",
         "--version",

@@ -1,0 +1,76 @@
+use films::{Film, Header, Value};
+
+use crate::support::{Folder, SmallDisk, names};
+
+#[test]
+fn a_file_for_each_table_with_columns() {
+    let folder = Folder::with_films();
+    folder.usm(&["csv", "song.usm", "f.usm"]).expect(
+        0,
+        "song.usm\nwritten  26 bytes: ./song.crid-32.csv\nwritten  15 bytes: ./song.sfv-160.csv\n\
+         written  16 bytes: ./song.sfa-256.csv\n\
+         \n\
+         f.usm\nwritten  nothing: no table has a column\n",
+        "",
+    );
+    assert_eq!(folder.read("song.crid-32.csv"), b"filename\r\nsongs/lark.usm\r\n");
+    assert_eq!(folder.read("song.sfv-160.csv"), b"mpeg_codec\r\n1\r\n");
+    assert_eq!(folder.read("song.sfa-256.csv"), b"audio_codec\r\n2\r\n");
+    let there = "usm: song.usm: ./song.crid-32.csv: the file is there already; --force replaces it\n";
+    folder.usm(&["csv", "song.usm"]).expect(2, "", there);
+    folder.usm(&["csv", "-q", "--force", "song.usm"]).expect(0, "", "");
+}
+
+#[test]
+fn one_table_of_any_file() {
+    let folder = Folder::new();
+    folder.write("table", &films::table(&[b"a,b", b"c"], &[&[Value::SignedByte(-1), Value::Data(b"\0\xAB")]]));
+    folder.usm(&["csv", "--at", "0", "--json", "-o", "out", "table"]).expect(
+        0,
+        "{\"file\":\"table\",\"file_hex\":\"7461626c65\",\"files\":[{\"path\":\"out/table.0.csv\",\
+         \"path_hex\":\"6f75742f7461626c652e302e637376\",\"bytes\":\"18\"}]}\n",
+        "",
+    );
+    assert_eq!(folder.read("out/table.0.csv"), b"\"a,b\",c\r\n-1,00ab\r\n");
+    let no_table = "usm: table: refused 3 at 1: no @UTF where a table begins\n";
+    folder.usm(&["csv", "--at", "1", "table"]).expect(1, "", no_table);
+    assert_eq!(folder.usm(&["csv", "--at", "x", "table"]).status, 2);
+    assert_eq!(folder.usm(&["csv"]).status, 2);
+}
+
+#[test]
+fn a_table_that_makes_too_much() {
+    let folder = Folder::new();
+    // 64 columns and 256 rows, whose cells all share a string: over a thousand million bytes of text.
+    let (names, row) = (vec![&b"n"[..]; 64], vec![Value::Number(0); 64]);
+    let mut table = films::table(&names, &vec![&row[..]; 256]);
+    for column in 0..64 {
+        table[32 + 5 * column] = 0x5A;
+    }
+    table.truncate(table.len() - 128);
+    table.extend(vec![b'x'; 66_000]);
+    table.push(0);
+    let size = (table.len() - 8) as u32;
+    table[4..8].copy_from_slice(&size.to_be_bytes());
+    table[16..20].copy_from_slice(&size.to_be_bytes());
+    folder.write("table", &table);
+    let run = folder.usm(&["csv", "--at", "0", "table"]);
+    assert_eq!((run.status, run.out.as_str()), (2, ""));
+    assert!(run.err.ends_with("bytes of CSV, and 1073741824 is the most\n"), "{}", run.err);
+    assert_eq!(folder.usm(&["table", "--at", "0", "--csv", "table"]).status, 2);
+    assert_eq!(folder.names(), ["table"]);
+}
+
+#[test]
+fn a_full_disk_leaves_no_table() {
+    let folder = Folder::new();
+    let Some(_disk) = SmallDisk::new(&folder) else {
+        eprintln!("SKIPPED: a full disk needs root and mount");
+        return;
+    };
+    let name = vec![b'n'; 40_000];
+    folder.write("film.usm", &Film::new(&Header { name: Some(&name), video_codec: Some(1), audio: None }).bytes);
+    let full = "usm: film.usm: disk/film.crid-32.csv: No space left on device (os error 28)\n";
+    folder.usm(&["csv", "film.usm", "-o", "disk"]).expect(2, "", full);
+    assert_eq!(names(&folder.path("disk")), [""; 0]);
+}
