@@ -14,12 +14,14 @@ mod info;
 mod key;
 mod keys;
 mod list;
+mod made;
 mod names;
 mod output;
 mod pack;
 mod pair;
 mod placing;
 mod progress;
+mod salvage;
 mod table;
 mod trouble;
 
@@ -53,6 +55,7 @@ enum Command {
     Extract(extract::Extract),
     Pack(pack::Pack),
     Csv(csv_files::Csv),
+    Salvage(salvage::Salvage),
     #[command(hide = true)]
     Completions(completions::Completions),
 }
@@ -74,6 +77,7 @@ fn run(command: Command) -> Status {
         Command::Extract(extract) => extract.run(),
         Command::Pack(pack) => pack.run(),
         Command::Csv(csv) => csv.run(),
+        Command::Salvage(salvage) => salvage.run(),
         Command::Completions(completions) => completions.run(),
     }
 }

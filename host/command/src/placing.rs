@@ -48,6 +48,11 @@ impl Files {
         Ok(Files { folder, force: placing.force, films, written: Mutex::default() })
     }
 
+    /// Whether the files have a folder of their own.
+    pub fn have_folder(&self) -> bool {
+        self.folder.is_some()
+    }
+
     /// A file of a film, by its name: in the folder of the run, or beside the film.
     pub fn target(&self, label: &Path, name: &str) -> PathBuf {
         let beside = label.parent().filter(|folder| !folder.as_os_str().is_empty()).unwrap_or(Path::new("."));

@@ -104,6 +104,17 @@ pub struct Packing {
     pub has_audio_codec: u8,
 }
 
+#[repr(C)]
+#[derive(Clone, Copy)]
+pub struct SalvageReply {
+    pub refused_at: usize,
+    pub kept: usize,
+    pub dropped: usize,
+    pub number: u8,
+    pub unknown_type: u8,
+    pub cause: u8,
+}
+
 // What usm.h says of these sizes.
 const _: () = assert!(size_of::<Reading>() == 4);
 const _: () = assert!(size_of::<Key>() == 16);
@@ -114,6 +125,7 @@ const _: () = assert!(size_of::<Chunk>() == 24);
 const _: () = assert!(size_of::<ListReply>() == 24);
 const _: () = assert!(size_of::<SizeReply>() == 24);
 const _: () = assert!(size_of::<Packing>() == 32);
+const _: () = assert!(size_of::<SalvageReply>() == 32);
 
 #[link(name = "player", kind = "static")]
 unsafe extern "C" {
@@ -162,6 +174,7 @@ unsafe extern "C" {
     ) -> SizeReply;
     fn usm_csv(bytes: *const u8, len: usize, place: usize, reading: Reading, out: *mut u8, out_len: usize)
     -> SizeReply;
+    fn usm_salvage(container: *const u8, len: usize) -> SalvageReply;
 }
 
 // SAFETY, for every call below: each pointer and length are those of one slice, or of a vector's room, that is lent to
@@ -263,6 +276,10 @@ fn fill_list<T>(list: &mut Vec<T>, call: impl FnOnce(&mut [MaybeUninit<T>]) -> L
         unsafe { list.set_len(reply.count) };
     }
     reply
+}
+
+pub fn salvage(container: &[u8]) -> SalvageReply {
+    unsafe { usm_salvage(container.as_ptr(), container.len()) }
 }
 
 /// Writes a film to the room of a vector, whose contents it replaces. Where the reply refuses, as it does where there is

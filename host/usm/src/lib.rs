@@ -24,6 +24,7 @@
 //! | read the tables of its header, or any @UTF table | [`header_tables`], [`table`] |
 //! | mask and unmask payloads | [`mask`], [`unmask`], [`key_table`] |
 //! | pack streams into a film | [`pack`], [`pack_into`] |
+//! | save what arrived of a film that was cut | [`salvage()`] |
 //! | write a table as CSV | [`csv()`] |
 //!
 //! Every film, damaged or hostile, has an answer: a result or a [`Refusal`] with a number, a place and a reason. No
@@ -41,6 +42,7 @@ mod masks;
 mod pack;
 mod reading;
 mod refusal;
+mod salvage;
 mod sized;
 mod tables;
 
@@ -54,6 +56,7 @@ pub use masks::{KeyTable, Stream, key_table, mask, unmask};
 pub use pack::{Streams, pack, pack_into, packed_size};
 pub use reading::{Audio, Payloads, Reading};
 pub use refusal::{Reason, Refusal};
+pub use salvage::{Salvaged, salvage};
 pub use tables::{Cell, Column, Row, Table, csv, csv_into, csv_size, table};
 
 /// The bytes of the longest film that is read: 1 GiB.

@@ -55,6 +55,8 @@ pub enum Reason {
     MarkedPayload,
     /// 17: a header size below 0x18, with [`Payloads::AfterHeader`](crate::Payloads::AfterHeader).
     ShortHeader,
+    /// 21: no beginning of the film is accepted.
+    NoBeginning,
     /// 23: an audio codec without audio.
     CodecAlone,
     /// Another number than those above. The functions of this crate give none.
@@ -79,7 +81,7 @@ impl Refusal {
 }
 
 impl Reason {
-    fn of(number: u8, unknown_type: u8) -> Reason {
+    pub(crate) fn of(number: u8, unknown_type: u8) -> Reason {
         match number {
             1 => Reason::RanOut,
             2 => Reason::NoFilm,
@@ -94,8 +96,33 @@ impl Reason {
             11 => Reason::TooLong,
             15 => Reason::MarkedPayload,
             17 => Reason::ShortHeader,
+            21 => Reason::NoBeginning,
             23 => Reason::CodecAlone,
             number => Reason::Other(number),
+        }
+    }
+}
+
+impl Reason {
+    /// The number that the rules and the C header give it.
+    pub fn number(self) -> u8 {
+        match self {
+            Reason::RanOut => 1,
+            Reason::NoFilm => 2,
+            Reason::NoTable => 3,
+            Reason::NoVideo => 4,
+            Reason::NoAudio => 5,
+            Reason::NoHeaderEnd => 6,
+            Reason::NoMetadataEnd => 7,
+            Reason::UnknownType(_) => 8,
+            Reason::TooSmall => 9,
+            Reason::TooMany => 10,
+            Reason::TooLong => 11,
+            Reason::MarkedPayload => 15,
+            Reason::ShortHeader => 17,
+            Reason::NoBeginning => 21,
+            Reason::CodecAlone => 23,
+            Reason::Other(number) => number,
         }
     }
 }
@@ -116,6 +143,7 @@ impl fmt::Display for Reason {
             Reason::TooLong => f.write_str("longer than 1,073,741,824 bytes"),
             Reason::MarkedPayload => f.write_str("a payload that begins with #CONTENTS END"),
             Reason::ShortHeader => f.write_str("a header that is too short"),
+            Reason::NoBeginning => f.write_str("no beginning of it is accepted"),
             Reason::CodecAlone => f.write_str("an audio codec without audio"),
             Reason::Other(number) => write!(f, "reason {number}"),
         }

@@ -10,5 +10,6 @@ mod list;
 mod memory;
 mod output;
 mod pack;
+mod salvage;
 mod support;
 mod table;

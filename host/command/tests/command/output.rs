@@ -26,6 +26,8 @@ fn a_full_disk_is_an_error() {
         "pack song.usm -o film.usm --force",
         "pack song.usm -o film.usm --force --json",
         "csv song.usm --force",
+        "salvage song.usm --force",
+        "salvage song.usm --force --json",
         "--help",
         "info --help",
         "--version",
