@@ -8,14 +8,13 @@ use lib.ListN.{length, getD, take, drop}
 use lib.Seq.{sets, sets-eq, take-at}
 use lib.Dec.{ltb, eqb}
 use borrow.Author.Tests.{ltb-false}
-use Rattle.refusal.specs.declared.Cause.{Cause}
-use Rattle.refusal.specs.declared.Cause.the-variants.{RanOut, NoFilm, NoTable, NoVideo, NoAudio, NoHeaderEnd, NoMetadataEnd, UnknownType, TooSmall, TooMany, TooLong, ShortOutput, ShortList, MarkedPayload, ShortRoom, ShortHeader, UnknownStorage, Foreign, ManyAudios, NoBeginning, BadTenants, CodecAlone}
-use Rattle.refusal.specs.Numbers.{numberOf}
+use Rattle.refusal.specs.declared.Cause.the-variants.{TooLong, ShortList, BadTenants}
 use Rattle.film.specs.Films.{Film, film, refused}
 use Rattle.list.specs.declared.Listed.{Listed}
 use Rattle.list.specs.declared.Listed.the-variants.{Count, Refused}
 use Rattle.list.specs.declared.ListReply.{ListReply}
 use Rattle.list.specs.Listing.{listReply}
+use Rattle.list.proofs.ReplyLaws.{counted}
 use Rattle.shown.specs.Shown.{shownOf}
 use Rattle.shares.specs.Tenants.{numberIn, repeated, areBad}
 use Rattle.shares.specs.Shares.{lineOf, linesFrom, lineAt}
@@ -24,35 +23,9 @@ use Rattle.shares.proofs.RisingLaws.{Distinct, distinct, rising, perm-rising, R
 use Rattle.statement.specs.Statements.{filmIn, refusedBy, statedIn, statedOf, copyOf, linesOf}
 use Rattle.statement.specs.Promises.{linesGiven, Answered}
 
--- no cause has the number 0
-no-zero : (cause : Cause) → numberOf cause ≡ 0 → ⊥
-no-zero RanOut e = omega arith
-no-zero NoFilm e = omega arith
-no-zero NoTable e = omega arith
-no-zero NoVideo e = omega arith
-no-zero NoAudio e = omega arith
-no-zero NoHeaderEnd e = omega arith
-no-zero NoMetadataEnd e = omega arith
-no-zero (UnknownType kind) e = omega arith
-no-zero TooSmall e = omega arith
-no-zero TooMany e = omega arith
-no-zero TooLong e = omega arith
-no-zero (ShortOutput video audio) e = omega arith
-no-zero (ShortList count) e = omega arith
-no-zero MarkedPayload e = omega arith
-no-zero (ShortRoom size) e = omega arith
-no-zero ShortHeader e = omega arith
-no-zero UnknownStorage e = omega arith
-no-zero Foreign e = omega arith
-no-zero ManyAudios e = omega arith
-no-zero NoBeginning e = omega arith
-no-zero BadTenants e = omega arith
-no-zero CodecAlone e = omega arith
-
 -- an answer without a refusal is a count
 count-of : (answer : Listed) → listReply answer .number ≡ 0 → (n : ℕ) × (answer ≡ Count n)
-count-of (Count n) e = (n, refl)
-count-of (Refused refusal) e = absurd (no-zero (refusal .cause) e)
+count-of answer e = (listReply answer .count, counted answer e)
 
 -- and every test was passed
 all-passed : (long bad : Bool) (room count n : ℕ) (f : Film) → cond long (refusedBy TooLong) (cond bad (refusedBy BadTenants) (statedIn room count f)) ≡ Count n
