@@ -8,44 +8,44 @@ mod answers;
 mod lists;
 mod questions;
 
-use fields::Number;
 use libc::STDIN_FILENO;
 use libc::STDOUT_FILENO;
+use replay_fields::Number;
 
 // Puts the bytes that digits stand for at a place of the container, and answers whether they end inside it.
 fn put_at(container: &mut [u8], place: usize, digits: &[u8]) -> bool {
     if container.len() < place {
         return false;
     }
-    if !fields::is_hex(digits, container.len() - place) {
+    if !replay_fields::is_hex(digits, container.len() - place) {
         return false;
     }
-    fields::decode(digits, &mut container[place..]);
+    replay_fields::decode(digits, &mut container[place..]);
     true
 }
 
 // Puts what a text of a place and digits says, and answers whether it is one.
 fn put(text: &[u8], container: &mut [u8]) -> bool {
-    let gap = fields::gap_in(text);
+    let gap = replay_fields::gap_in(text);
     if gap == text.len() {
         return false;
     }
-    match fields::number_of(&text[..gap]) {
-        Number::Of(place) => put_at(container, place, fields::rest_from(text, gap + 1)),
+    match replay_fields::number_of(&text[..gap]) {
+        Number::Of(place) => put_at(container, place, replay_fields::rest_from(text, gap + 1)),
         Number::NotANumber => false,
     }
 }
 
 // Does what a line says that leaves the container's length, and answers whether it is one.
 fn replay_line(line: &[u8], container: &mut [u8]) -> bool {
-    if fields::is_marked(line, b'p') {
-        return put(fields::rest_from(line, 2), container);
+    if replay_fields::is_marked(line, b'p') {
+        return put(replay_fields::rest_from(line, 2), container);
     }
-    if fields::is_marked(line, b'e') {
-        return questions::replay_film(fields::rest_from(line, 2), container);
+    if replay_fields::is_marked(line, b'e') {
+        return questions::replay_film(replay_fields::rest_from(line, 2), container);
     }
-    if fields::is_marked(line, b'c') {
-        return questions::replay_list(fields::rest_from(line, 2), container);
+    if replay_fields::is_marked(line, b'c') {
+        return questions::replay_list(replay_fields::rest_from(line, 2), container);
     }
     false
 }
@@ -58,7 +58,7 @@ fn replay_lines(list: &[u8], from: usize, container: &mut [u8]) -> usize
 {
     let mut at = from;
     while at < list.len() {
-        let next = fields::next_line(list, at);
+        let next = replay_fields::next_line(list, at);
         let end = next - 1;
         if !replay_line(&list[at..end], container) {
             return at;
@@ -79,18 +79,18 @@ fn clear_from(space: &mut [u8], place: usize) {
 
 // The length that a line gives the container.
 fn length_on(line: &[u8]) -> Number {
-    if fields::is_marked(line, b'n') {
-        return fields::number_of(fields::rest_from(line, 2));
+    if replay_fields::is_marked(line, b'n') {
+        return replay_fields::number_of(replay_fields::rest_from(line, 2));
     }
-    if fields::is_marked(line, b'l') {
-        return fields::number_of(fields::rest_from(line, 2));
+    if replay_fields::is_marked(line, b'l') {
+        return replay_fields::number_of(replay_fields::rest_from(line, 2));
     }
     Number::NotANumber
 }
 
 // How many bytes of a container stay where a line gives it a length: none of a new one.
 fn kept_by(line: &[u8], len: usize) -> usize {
-    if fields::is_marked(line, b'n') {
+    if replay_fields::is_marked(line, b'n') {
         return 0;
     }
     len
@@ -102,7 +102,7 @@ fn replay_container(list: &[u8], at: usize, space: &mut [u8]) -> usize
     requires { ⌜ at < length (now list) ⌝ }
     ensures { λ r. ⌜ (at ≤ r) × (r ≤ length (now (list .entry))) ⌝ }
 {
-    let next = fields::next_line(list, at);
+    let next = replay_fields::next_line(list, at);
     let end = next - 1;
     let line = &list[at..end];
     match length_on(line) {
@@ -119,7 +119,7 @@ fn replay_container(list: &[u8], at: usize, space: &mut [u8]) -> usize
 
 // Does what each line of a list says, up to the first that says nothing, and answers whether all of it was a list.
 fn replay(list: &[u8], space: &mut [u8]) -> bool {
-    if !fields::ends_in_line(list) {
+    if !replay_fields::ends_in_line(list) {
         return false;
     }
     let mut at = replay_lines(list, 0, &mut space[..0]);

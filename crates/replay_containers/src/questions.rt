@@ -56,7 +56,7 @@ fn is_key(text: &[u8]) -> bool {
     if text.len() != KEY_DIGITS {
         return false;
     }
-    fields::is_hex(text, 8)
+    replay_fields::is_hex(text, 8)
 }
 
 // The key that such a text stands for.
@@ -65,24 +65,24 @@ fn key_of(text: &[u8]) -> Key {
         return Key::Absent;
     }
     let mut bytes = [0u8; 8];
-    fields::decode(text, &mut bytes);
+    replay_fields::decode(text, &mut bytes);
     Key::Given(word::read64(&bytes, 0) as u64)
 }
 
 // Writes the answer on an extraction by the digits of the fallback name, and answers whether they are some.
 fn replay_named(container: &[u8], reading: Reading, key: Key, digits: &[u8]) -> bool {
-    if !fields::is_hex(digits, MOST_NAME) {
+    if !replay_fields::is_hex(digits, MOST_NAME) {
         return false;
     }
     let mut space = io::buffer();
-    let size = fields::decode(digits, &mut space);
+    let size = replay_fields::decode(digits, &mut space);
     crate::answers::write_film(container, reading, key, &space[..size]);
     true
 }
 
 // Writes the answer on an extraction by a text of a key and a fallback name, and answers whether it is one.
 fn replay_keyed(container: &[u8], reading: Reading, text: &[u8]) -> bool {
-    let gap = fields::gap_in(text);
+    let gap = replay_fields::gap_in(text);
     if gap == text.len() {
         return false;
     }
@@ -90,16 +90,21 @@ fn replay_keyed(container: &[u8], reading: Reading, text: &[u8]) -> bool {
         return false;
     }
     let key = key_of(&text[..gap]);
-    replay_named(container, reading, key, fields::rest_from(text, gap + 1))
+    replay_named(
+        container,
+        reading,
+        key,
+        replay_fields::rest_from(text, gap + 1),
+    )
 }
 
 // Writes the answer on an extraction by a text of a choice of audio, a key and a fallback name, and answers whether
 // it is one.
 pub(crate) fn replay_film(text: &[u8], container: &[u8]) -> bool {
-    let gap = fields::gap_in(text);
+    let gap = replay_fields::gap_in(text);
     if !is_choice(&text[..gap]) {
         return false;
     }
     let reading = reading::reading_by(reading_of(&text[..gap]));
-    replay_keyed(container, reading, fields::rest_from(text, gap + 1))
+    replay_keyed(container, reading, replay_fields::rest_from(text, gap + 1))
 }

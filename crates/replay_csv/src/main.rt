@@ -41,34 +41,34 @@ fn write_answer(table: &[u8], mode: TableMode) {
 
 // Writes the answer on a table by its hex digits, and answers whether they are a table's.
 fn replay_table(digits: &[u8], mode: TableMode) -> bool {
-    if !fields::is_hex(digits, MOST_TABLE) {
+    if !replay_fields::is_hex(digits, MOST_TABLE) {
         return false;
     }
     let mut space = [0u8; MOST_TABLE];
-    let size = fields::decode(digits, &mut space);
+    let size = replay_fields::decode(digits, &mut space);
     write_answer(&space[..size], mode);
     true
 }
 
 // Writes the answer on the table of a line, and answers whether it is one.
 fn replay_line_of(line: &[u8]) -> bool {
-    if fields::is_marked(line, b't') {
-        return replay_table(fields::rest_from(line, 2), TableMode::Original);
+    if replay_fields::is_marked(line, b't') {
+        return replay_table(replay_fields::rest_from(line, 2), TableMode::Original);
     }
-    if fields::is_marked(line, b'z') {
-        return replay_table(fields::rest_from(line, 2), TableMode::ZeroColumns);
+    if replay_fields::is_marked(line, b'z') {
+        return replay_table(replay_fields::rest_from(line, 2), TableMode::ZeroColumns);
     }
     false
 }
 
 // Writes the answers on each table of a list, up to the first line that is none, and answers whether all of it was a list.
 fn replay(list: &[u8]) -> bool {
-    if !fields::ends_in_line(list) {
+    if !replay_fields::ends_in_line(list) {
         return false;
     }
     let mut at = 0;
     while at < list.len() {
-        let next = fields::next_line(list, at);
+        let next = replay_fields::next_line(list, at);
         let end = next - 1;
         if !replay_line_of(&list[at..end]) {
             return false;

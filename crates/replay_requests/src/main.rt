@@ -10,27 +10,27 @@ const MOST: usize = 4096;
 
 // Writes the answers on the film of a line, and answers whether it is one.
 fn replay_film(line: &[u8]) -> bool {
-    if !fields::is_marked(line, b'f') {
+    if !replay_fields::is_marked(line, b'f') {
         return false;
     }
-    let digits = fields::rest_from(line, 2);
-    if !fields::is_hex(digits, MOST) {
+    let digits = replay_fields::rest_from(line, 2);
+    if !replay_fields::is_hex(digits, MOST) {
         return false;
     }
     let mut space = io::buffer();
-    let size = fields::decode(digits, &mut space);
+    let size = replay_fields::decode(digits, &mut space);
     answers::write_film(&space[..size]);
     true
 }
 
 // Writes the answers on each film of a list, and answers whether all of it was a list.
 fn replay(list: &[u8]) -> bool {
-    if !fields::ends_in_line(list) {
+    if !replay_fields::ends_in_line(list) {
         return false;
     }
     let mut at = 0;
     while at < list.len() {
-        let next = fields::next_line(list, at);
+        let next = replay_fields::next_line(list, at);
         let end = next - 1;
         if !replay_film(&list[at..end]) {
             return false;

@@ -57,22 +57,22 @@ fn write_answers(film: &[u8]) {
 
 // Writes the answers on the film of a line, and answers whether it is one.
 fn replay_film(digits: &[u8], space: &mut [u8]) -> bool {
-    if !fields::is_hex(digits, space.len()) {
+    if !replay_fields::is_hex(digits, space.len()) {
         return false;
     }
-    let size = fields::decode(digits, space);
+    let size = replay_fields::decode(digits, space);
     write_answers(&space[..size]);
     true
 }
 
 // Replays each line of a list, and answers whether all of it was a list.
 fn replay(list: &[u8], space: &mut [u8]) -> bool {
-    if !fields::ends_in_line(list) {
+    if !replay_fields::ends_in_line(list) {
         return false;
     }
     let mut at = 0;
     while at < list.len() {
-        let next = fields::next_line(list, at);
+        let next = replay_fields::next_line(list, at);
         let end = next - 1;
         if !replay_film(&list[at..end], space) {
             return false;

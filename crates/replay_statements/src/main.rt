@@ -87,14 +87,14 @@ fn state_both(film: &[u8], tenants: &[[u64; 2]], count: usize) {
 // Puts the bytes that digits stand for at a place of a film, as far as they fit.
 fn put(space: &mut [u8], place: usize, digits: &[u8]) {
     if place < space.len() {
-        fields::decode(digits, &mut space[place..]);
+        replay_fields::decode(digits, &mut space[place..]);
     }
 }
 
 // A tenant from the digits of its number and its key.
 fn tenant_from(digits: &[u8]) -> [u64; 2] {
     let mut bytes = [0u8; 16];
-    fields::decode(digits, &mut bytes);
+    replay_fields::decode(digits, &mut bytes);
     [
         word::read64(&bytes, 0) as u64,
         word::read64(&bytes, 8) as u64,
@@ -113,7 +113,7 @@ fn add_tenant(tenants: &mut [[u64; 2]], count: usize, tenant: [u64; 2]) -> usize
 // The number that eight digits stand for.
 fn number_from(digits: &[u8]) -> usize {
     let mut bytes = [0u8; 4];
-    fields::decode(digits, &mut bytes);
+    replay_fields::decode(digits, &mut bytes);
     word::read32(&bytes, 0)
 }
 
@@ -121,17 +121,17 @@ fn number_from(digits: &[u8]) -> usize {
 fn follow(record: &[u8], counts: Counts, space: &mut [u8], tenants: &mut [[u64; 2]]) -> Counts {
     let number = number_from(part::part_at(record, 2, 8));
     let digits = part::part_at(record, 11, 32);
-    if fields::is_marked(record, b'n') {
+    if replay_fields::is_marked(record, b'n') {
         return Counts {
             film: number,
             tenants: 0,
         };
     }
-    if fields::is_marked(record, b'p') {
+    if replay_fields::is_marked(record, b'p') {
         put(space, number, digits);
         return counts;
     }
-    if fields::is_marked(record, b't') {
+    if replay_fields::is_marked(record, b't') {
         return Counts {
             film: counts.film,
             tenants: add_tenant(tenants, counts.tenants, tenant_from(digits)),
@@ -153,7 +153,7 @@ fn replay(list: &[u8], space: &mut [u8], tenants: &mut [[u64; 2]]) {
     };
     let mut at = 0;
     while at < list.len() {
-        let next = fields::next_line(list, at);
+        let next = replay_fields::next_line(list, at);
         let now = follow(part::part_at(list, at, RECORD), counts, space, tenants);
         counts = now;
         at = next;

@@ -6,9 +6,9 @@ ghost use lib.ListN.{length};
 
 mod answers;
 
-use fields::Number;
 use libc::STDIN_FILENO;
 use libc::STDOUT_FILENO;
+use replay_fields::Number;
 
 // The longest table of the list.
 const MOST_TABLE: usize = 4096;
@@ -19,21 +19,21 @@ const MOST_NAME: usize = 256;
 // Writes the answer on a query by the name's hex digits and the row.
 fn replay_cell(table: &[u8], digits: &[u8], row: usize) {
     let mut space = [0u8; MOST_NAME];
-    let size = fields::decode(digits, &mut space);
+    let size = replay_fields::decode(digits, &mut space);
     answers::write_cell(table, &space[..size], row);
 }
 
 // Writes the answer on the query of a line, and answers whether it is one.
 fn replay_query(line: &[u8], table: &[u8]) -> bool {
-    if !fields::is_marked(line, b'c') {
+    if !replay_fields::is_marked(line, b'c') {
         return false;
     }
-    let query = fields::rest_from(line, 2);
-    let gap = fields::gap_in(query);
-    if !fields::is_hex(&query[..gap], MOST_NAME) {
+    let query = replay_fields::rest_from(line, 2);
+    let gap = replay_fields::gap_in(query);
+    if !replay_fields::is_hex(&query[..gap], MOST_NAME) {
         return false;
     }
-    match fields::number_of(fields::rest_from(query, gap + 1)) {
+    match replay_fields::number_of(replay_fields::rest_from(query, gap + 1)) {
         Number::Of(row) => {
             replay_cell(table, &query[..gap], row);
             true
@@ -50,7 +50,7 @@ fn replay_queries(list: &[u8], from: usize, table: &[u8]) -> usize
 {
     let mut at = from;
     while at < list.len() {
-        let next = fields::next_line(list, at);
+        let next = replay_fields::next_line(list, at);
         let end = next - 1;
         if !replay_query(&list[at..end], table) {
             return at;
@@ -62,10 +62,10 @@ fn replay_queries(list: &[u8], from: usize, table: &[u8]) -> usize
 
 // Whether a line is a table's.
 fn is_table(line: &[u8]) -> bool {
-    if !fields::is_marked(line, b't') {
+    if !replay_fields::is_marked(line, b't') {
         return false;
     }
-    fields::is_hex(fields::rest_from(line, 2), MOST_TABLE)
+    replay_fields::is_hex(replay_fields::rest_from(line, 2), MOST_TABLE)
 }
 
 // Writes the answers on the table whose line starts at a place and on its queries, and answers where it
@@ -74,14 +74,14 @@ fn replay_table(list: &[u8], at: usize) -> usize
     requires { ⌜ at < length (now list) ⌝ }
     ensures { λ r. ⌜ (at ≤ r) × (r ≤ length (now (list .entry))) ⌝ }
 {
-    let next = fields::next_line(list, at);
+    let next = replay_fields::next_line(list, at);
     let end = next - 1;
     let line = &list[at..end];
     if !is_table(line) {
         return at;
     }
     let mut space = io::buffer();
-    let size = fields::decode(fields::rest_from(line, 2), &mut space);
+    let size = replay_fields::decode(replay_fields::rest_from(line, 2), &mut space);
     let table = &space[..size];
     answers::write_table(table);
     replay_queries(list, next, table)
@@ -90,7 +90,7 @@ fn replay_table(list: &[u8], at: usize) -> usize
 // Writes the answers on each table of a list, up to the first line that is neither a table nor a query of
 // one, and answers whether all of it was a list.
 fn replay(list: &[u8]) -> bool {
-    if !fields::ends_in_line(list) {
+    if !replay_fields::ends_in_line(list) {
         return false;
     }
     let mut at = 0;

@@ -149,12 +149,12 @@ fn replay_line(line: &[u8]) -> bool {
 
 // Does what each line of a list says, up to the first that says nothing, and answers whether all of it was a list.
 fn replay(list: &[u8]) -> bool {
-    if !fields::ends_in_line(list) {
+    if !replay_fields::ends_in_line(list) {
         return false;
     }
     let mut at = 0;
     while at < list.len() {
-        let next = fields::next_line(list, at);
+        let next = replay_fields::next_line(list, at);
         let end = next - 1;
         if !replay_line(&list[at..end]) {
             return false;

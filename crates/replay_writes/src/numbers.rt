@@ -1,7 +1,7 @@
 // The numbers on a line of the list, one space between each two.
 ghost use Prim.Native.Nat.{_≤_};
 ghost use lib.ListN.{length};
-use fields::Number;
+use replay_fields::Number;
 
 // The numbers of a line, and whether it is one.
 pub(crate) struct Numbers {
@@ -34,7 +34,7 @@ fn after_field(line: &[u8], from: usize) -> usize
     if line.len() <= from {
         return line.len();
     }
-    let end = from + fields::gap_in(&line[from..]);
+    let end = from + replay_fields::gap_in(&line[from..]);
     if line.len() <= end {
         return line.len();
     }
@@ -43,8 +43,8 @@ fn after_field(line: &[u8], from: usize) -> usize
 
 // The number that the field at a place writes.
 fn number_at(line: &[u8], from: usize) -> usize {
-    let rest = fields::rest_from(line, from);
-    match fields::number_of(part::part_at(rest, 0, fields::gap_in(rest))) {
+    let rest = replay_fields::rest_from(line, from);
+    match replay_fields::number_of(part::part_at(rest, 0, replay_fields::gap_in(rest))) {
         Number::Of(number) => number,
         Number::NotANumber => NONE,
     }

@@ -5,7 +5,7 @@ use libc::STDOUT_FILENO;
 
 // Prints the answer for two words, and an empty line.
 fn pair(first: &[u8], second: &[u8]) {
-    answer::print_answer(first, second);
+    key_answer::print_answer(first, second);
     io::write_all(STDOUT_FILENO, b"\n");
 }
 
@@ -16,7 +16,7 @@ fn beside_zero(second: &[u8]) {
 
 // Prints the line about a word that is no key.
 fn no_key(word: &[u8]) {
-    answer::print_answer(word, b"1");
+    key_answer::print_answer(word, b"1");
 }
 
 // Bits 36, 39, 56 and 63, and all bits that never count.
@@ -98,13 +98,13 @@ fn long_words() {
 
 // Prints the answer for key 0, a key with a few bits set, and a clip's length.
 fn clip(second: &[u8], length: &[u8]) {
-    answer::print_answer_on_clip(b"0", second, length);
+    key_answer::print_answer_on_clip(b"0", second, length);
     io::write_all(STDOUT_FILENO, b"\n");
 }
 
 // Prints the line about a word that is no length.
 fn no_length(word: &[u8]) {
-    answer::print_answer_on_clip(b"1", b"2", word);
+    key_answer::print_answer_on_clip(b"1", b"2", word);
 }
 
 // A key that differs in bits 40 to 47: lane 0x18 tells it, the last byte of 0x159.
@@ -141,15 +141,15 @@ fn no_lengths() {
     no_length(b"12345678901234567");
     no_length(b"0x12345678901234567");
     no_length(b"1\n");
-    answer::print_answer_on_clip(b"one", b"two", b"three");
-    answer::print_answer_on_clip(b"1", b"two", b"three");
+    key_answer::print_answer_on_clip(b"one", b"two", b"three");
+    key_answer::print_answer_on_clip(b"1", b"two", b"three");
 }
 
 // The second argument is no key, and both are none.
 fn second_arguments() {
-    answer::print_answer(b"1", b"two");
-    answer::print_answer(b"1", b"");
-    answer::print_answer(b"one", b"two");
+    key_answer::print_answer(b"1", b"two");
+    key_answer::print_answer(b"1", b"");
+    key_answer::print_answer(b"one", b"two");
 }
 
 // Prints all cases, and the line for a wrong number of arguments.
@@ -168,5 +168,5 @@ fn main() {
     clips_and_bit_0();
     clips_and_equal_keys();
     no_lengths();
-    answer::print_usage();
+    key_answer::print_usage();
 }
