@@ -188,7 +188,7 @@ impl<'a> Told<'a, '_> {
     }
 
     /// The status is at least this one.
-    fn raise(&mut self, status: Status) {
+    pub fn raise(&mut self, status: Status) {
         self.telling.status = self.telling.status.max(status);
     }
 

@@ -20,6 +20,7 @@ mod output;
 mod pack;
 mod pair;
 mod placing;
+mod profile;
 mod progress;
 mod salvage;
 mod table;
@@ -56,6 +57,7 @@ enum Command {
     Pack(pack::Pack),
     Csv(csv_files::Csv),
     Salvage(salvage::Salvage),
+    Profile(profile::Profile),
     #[command(hide = true)]
     Completions(completions::Completions),
 }
@@ -78,6 +80,7 @@ fn run(command: Command) -> Status {
         Command::Pack(pack) => pack.run(),
         Command::Csv(csv) => csv.run(),
         Command::Salvage(salvage) => salvage.run(),
+        Command::Profile(profile) => profile.run(),
         Command::Completions(completions) => completions.run(),
     }
 }

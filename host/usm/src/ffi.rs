@@ -115,6 +115,17 @@ pub struct SalvageReply {
     pub cause: u8,
 }
 
+#[repr(C)]
+#[derive(Clone, Copy)]
+pub struct ProfileReply {
+    pub refused_at: usize,
+    pub place: usize,
+    pub number: u8,
+    pub unknown_type: u8,
+    pub rule: u8,
+    pub stream: u8,
+}
+
 // What usm.h says of these sizes.
 const _: () = assert!(size_of::<Reading>() == 4);
 const _: () = assert!(size_of::<Key>() == 16);
@@ -126,6 +137,7 @@ const _: () = assert!(size_of::<ListReply>() == 24);
 const _: () = assert!(size_of::<SizeReply>() == 24);
 const _: () = assert!(size_of::<Packing>() == 32);
 const _: () = assert!(size_of::<SalvageReply>() == 32);
+const _: () = assert!(size_of::<ProfileReply>() == 24);
 
 #[link(name = "player", kind = "static")]
 unsafe extern "C" {
@@ -175,6 +187,7 @@ unsafe extern "C" {
     fn usm_csv(bytes: *const u8, len: usize, place: usize, reading: Reading, out: *mut u8, out_len: usize)
     -> SizeReply;
     fn usm_salvage(container: *const u8, len: usize) -> SalvageReply;
+    fn usm_profile(container: *const u8, len: usize) -> ProfileReply;
 }
 
 // SAFETY, for every call below: each pointer and length are those of one slice, or of a vector's room, that is lent to
@@ -280,6 +293,10 @@ fn fill_list<T>(list: &mut Vec<T>, call: impl FnOnce(&mut [MaybeUninit<T>]) -> L
 
 pub fn salvage(container: &[u8]) -> SalvageReply {
     unsafe { usm_salvage(container.as_ptr(), container.len()) }
+}
+
+pub fn profile(container: &[u8]) -> ProfileReply {
+    unsafe { usm_profile(container.as_ptr(), container.len()) }
 }
 
 /// Writes a film to the room of a vector, whose contents it replaces. Where the reply refuses, as it does where there is

@@ -25,6 +25,7 @@
 //! | mask and unmask payloads | [`mask`], [`unmask`], [`key_table`] |
 //! | pack streams into a film | [`pack`], [`pack_into`] |
 //! | save what arrived of a film that was cut | [`salvage()`] |
+//! | check a film against the delivery profile | [`profile()`] |
 //! | write a table as CSV | [`csv()`] |
 //!
 //! Every film, damaged or hostile, has an answer: a result or a [`Refusal`] with a number, a place and a reason. No
@@ -40,6 +41,7 @@ mod film;
 mod header;
 mod masks;
 mod pack;
+mod profile;
 mod reading;
 mod refusal;
 mod salvage;
@@ -54,6 +56,7 @@ pub use film::{AudioKind, Film, Outline, Track, VideoKind, extract, extract_into
 pub use header::{HeaderTable, header_tables};
 pub use masks::{KeyTable, Stream, key_table, mask, unmask};
 pub use pack::{Streams, pack, pack_into, packed_size};
+pub use profile::{Offence, Rule, profile};
 pub use reading::{Audio, Payloads, Reading};
 pub use refusal::{Reason, Refusal};
 pub use salvage::{Salvaged, salvage};

@@ -10,6 +10,7 @@ mod list;
 mod memory;
 mod output;
 mod pack;
+mod profile;
 mod salvage;
 mod support;
 mod table;

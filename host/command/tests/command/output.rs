@@ -28,6 +28,8 @@ fn a_full_disk_is_an_error() {
         "csv song.usm --force",
         "salvage song.usm --force",
         "salvage song.usm --force --json",
+        "profile f.usm",
+        "profile --json f.usm",
         "--help",
         "info --help",
         "--version",
@@ -98,7 +100,7 @@ fn the_same_with_many_at_once() {
         }
         folder.write(&format!("{number:02}.usm"), &film);
     }
-    let commands = ["info", "list", "table", "info --json", "list --json", "list --csv"];
+    let commands = ["info", "list", "table", "info --json", "list --json", "list --csv", "profile", "profile --json"];
     for command in commands {
         let one = folder.shell(&format!("$USM {command} ."));
         let many = folder.shell(&format!("$USM {command} -j ."));

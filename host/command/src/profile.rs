@@ -1,0 +1,78 @@
+//! `usm profile`: whether films are plain.
+
+use clap::Args;
+use serde::Serialize;
+use usm::Offence;
+
+use crate::crew::{self, Film, Task, Turn};
+use crate::films::Films;
+use crate::names::Shown;
+use crate::output::{About, as_some_string, tell};
+use crate::trouble::{Status, Trouble};
+
+/// Check films against the delivery profile
+///
+/// A film is plain where every chunk keeps these rules: 1, its header size is 0x18; 2, its block size plus 8 is a
+/// multiple of 0x20; 3, each stream is closed by exactly one end chunk, and none of its payloads comes after it; 4, it
+/// begins with @SFV or @SFA. Of a film that is not plain the first chunk that breaks a rule is named, with the first rule
+/// that it breaks, and the status is 1.
+#[derive(Args)]
+pub struct Profile {
+    #[command(flatten)]
+    films: Films,
+}
+
+impl Profile {
+    pub fn run(self) -> Status {
+        crew::run(&self, &self.films)
+    }
+}
+
+impl Task for Profile {
+    fn film<'a>(&'a self, film: Film<'a, '_>, turn: &Turn<'a, '_>) -> Result<(), Trouble> {
+        let offence = usm::profile(film.bytes)?;
+        let mut told = turn.take();
+        if offence.is_some() {
+            told.raise(Status::Refused);
+        }
+        if self.films.json {
+            return told.object(&Object { about: About::new(film.label), answer: Answer::of(offence) });
+        }
+        let file = Shown::path(film.label);
+        match offence {
+            None => tell!(&mut *told, "{file}: plain\n"),
+            Some(Offence { rule, place, .. }) => {
+                tell!(&mut *told, "{file}: not plain, rule {} at {place}: {rule}\n", rule.number())
+            }
+        }
+        Ok(())
+    }
+}
+
+#[derive(Serialize)]
+struct Object<'a> {
+    #[serde(flatten)]
+    about: About<'a>,
+    #[serde(flatten)]
+    answer: Answer,
+}
+
+#[derive(Serialize)]
+struct Answer {
+    plain: bool,
+    rule: Option<u8>,
+    #[serde(serialize_with = "as_some_string")]
+    place: Option<usize>,
+    reason: Option<String>,
+}
+
+impl Answer {
+    fn of(offence: Option<Offence>) -> Answer {
+        Answer {
+            plain: offence.is_none(),
+            rule: offence.map(|offence| offence.rule.number()),
+            place: offence.map(|offence| offence.place),
+            reason: offence.map(|offence| offence.rule.to_string()),
+        }
+    }
+}
