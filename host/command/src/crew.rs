@@ -21,8 +21,18 @@ pub trait Task: Sync {
     /// How often it goes through a film's bytes: once to read them, and again to write.
     const STEPS: u64 = 1;
 
+    /// Tells what comes before all films.
+    fn begin(&self, _output: &mut Output) -> Result<(), Trouble> {
+        Ok(())
+    }
+
     /// Works on a film, and tells of it in its turn.
     fn film<'a>(&'a self, film: Film<'a, '_>, turn: &Turn<'a, '_>) -> Result<(), Trouble>;
+
+    /// Tells what comes after all films.
+    fn end(&self, _output: &mut Output) -> Result<(), Trouble> {
+        Ok(())
+    }
 }
 
 /// A film that is read.
@@ -40,9 +50,14 @@ pub struct Film<'a, 'b> {
 pub fn run(task: &impl Task, films: &Films) -> Status {
     let sources = sources(&films.files);
     let progress = Progress::new(sources.iter().map(Source::length).sum());
-    let output = match Output::new(progress.bar()) {
+    let begun = Output::new(progress.bar()).map_err(Trouble::Output).and_then(|mut output| {
+        task.begin(&mut output)?;
+        output.flush().map_err(Trouble::Output)?;
+        Ok(output)
+    });
+    let output = match begun {
         Ok(output) => output,
-        Err(error) => return output::failed(error),
+        Err(trouble) => return output::not_begun(trouble),
     };
     let telling = Telling { turn: 0, output, status: Status::Well, is_closed: false, handed_over: BTreeMap::new() };
     let crew = Crew { telling: Mutex::new(telling), moved: Condvar::new(), progress, json: films.json };
@@ -63,7 +78,15 @@ pub fn run(task: &impl Task, films: &Films) -> Status {
         work();
     });
     crew.progress.end();
-    crew.telling.into_inner().unwrap_or_else(PoisonError::into_inner).status
+    let Telling { mut output, status, is_closed, .. } =
+        crew.telling.into_inner().unwrap_or_else(PoisonError::into_inner);
+    if is_closed {
+        return status;
+    }
+    match task.end(&mut output).and_then(|()| output.flush().map_err(Trouble::Output)) {
+        Ok(()) => status,
+        Err(trouble) => status.max(output::not_begun(trouble)),
+    }
 }
 
 fn take<'a>(next: &AtomicUsize, sources: &'a [Source]) -> Option<(usize, &'a Source)> {

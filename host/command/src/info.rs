@@ -91,11 +91,11 @@ impl Facts {
 }
 
 /// The audio codec whose payloads are masked.
-const ADX: u32 = 2;
+pub const ADX: u32 = 2;
 
 /// The bytes from which on a payload of data type 0 differs between keys: video, and ADX sound.
-const VIDEO_SHOWS_FROM: usize = 0x240;
-const ADX_SHOWS_FROM: usize = 0x141;
+pub const VIDEO_SHOWS_FROM: usize = 0x240;
+pub const ADX_SHOWS_FROM: usize = 0x141;
 
 impl StreamFacts {
     const NONE: StreamFacts = StreamFacts { end: End::Missing, shows_key: None };

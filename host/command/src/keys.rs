@@ -1,17 +1,26 @@
 //! `usm keys`: whether two keys give the same streams.
 
+use std::path::PathBuf;
+
 use clap::Args;
 use serde::Serialize;
+use usm::{Chunk, ChunkKind, Reading, Tenant};
 
+use crate::crew::{self, Film, Task, Turn};
+use crate::films::Films;
+use crate::info::{ADX, ADX_SHOWS_FROM, VIDEO_SHOWS_FROM};
 use crate::key::{self, Key};
+use crate::list::listed;
 use crate::names::Shown;
-use crate::output::{Output, say, tell, write_all};
+use crate::output::{About, Output, as_string, say, tell};
 use crate::trouble::{Status, Trouble};
 
 /// Say whether two keys give the same streams
 ///
 /// A key is 1 to 16 hex digits of either case, with or without 0x. Of its 16 digits three never count, so that two keys
 /// may differ and still give the same pictures and the same sound.
+///
+/// With films, for each whether the two keys give the same streams, and if not, the first payload that shows it.
 #[derive(Args)]
 pub struct Keys {
     /// A key
@@ -20,7 +29,13 @@ pub struct Keys {
     /// Another key
     #[arg(value_name = "K2")]
     second: String,
-    /// Write a JSON object
+    /// Films, folders of films, or - for standard input
+    #[arg(value_name = "FILE")]
+    files: Vec<PathBuf>,
+    /// Work on as many films at once as there are processors
+    #[arg(short)]
+    jobs: bool,
+    /// Write a JSON object, and one for each film
     #[arg(long)]
     json: bool,
 }
@@ -42,8 +57,55 @@ impl Keys {
             say(Status::Well, &format!("note: {note}"));
         }
         let answer = Answer { first: keys[0].number, second: keys[1].number };
-        write_all(|output| if self.json { output.object(&answer.object()) } else { answer.tell(output) })
+        let films = Films { files: self.files, jobs: self.jobs, json: self.json };
+        crew::run(&Run { answer, json: self.json }, &films)
     }
+}
+
+struct Run {
+    answer: Answer,
+    json: bool,
+}
+
+impl Task for Run {
+    fn begin(&self, output: &mut Output) -> Result<(), Trouble> {
+        if self.json { output.object(&self.answer.object()) } else { self.answer.tell(output) }
+    }
+
+    fn film<'a>(&'a self, film: Film<'a, '_>, turn: &Turn<'a, '_>) -> Result<(), Trouble> {
+        let shown = self.answer.shown(film.bytes)?;
+        let mut told = turn.take();
+        if self.json {
+            let same_streams = shown.is_none();
+            return told.object(&FilmObject { about: About::new(film.label), same_streams, shown });
+        }
+        let file = Shown::path(film.label);
+        match shown {
+            None => tell!(&mut *told, "\n{file}: the same streams under both keys\n"),
+            Some(Shows { stream, at, .. }) => {
+                tell!(&mut *told, "\n{file}: different streams, first in the {stream} payload of the chunk at {at}\n")
+            }
+        }
+        Ok(())
+    }
+}
+
+/// The first payload of a film that two keys make differ.
+#[derive(Serialize)]
+struct Shows {
+    #[serde(rename = "differs_in")]
+    stream: &'static str,
+    #[serde(rename = "differs_at", serialize_with = "as_string")]
+    at: usize,
+}
+
+#[derive(Serialize)]
+struct FilmObject<'a> {
+    #[serde(flatten)]
+    about: About<'a>,
+    same_streams: bool,
+    #[serde(flatten)]
+    shown: Option<Shows>,
 }
 
 struct Answer {
@@ -58,6 +120,36 @@ impl Answer {
 
     fn same_streams(&self) -> bool {
         usm::key_table(self.first) == usm::key_table(self.second)
+    }
+
+    /// Where a film shows that the keys are two. Whether it does at all the statement's function says, which is proved.
+    fn shown(&self, film: &[u8]) -> Result<Option<Shows>, Trouble> {
+        let tenants = [(0, self.first), (1, self.second)].map(|(number, key)| Tenant { number, key });
+        let is_adx = usm::outline(film, Reading::default())?.audio.is_some_and(|track| track.codec == Some(ADX));
+        if usm::statement(film, &tenants)?.iter().all(|share| share.group == 0) {
+            return Ok(None);
+        }
+        let chunks = listed(film, Reading::default())?;
+        Ok(chunks.iter().find_map(|chunk| {
+            let (stream, differs) = match chunk.kind {
+                ChunkKind::Video => ("video", self.video_differs(&chunk)),
+                ChunkKind::Audio => ("audio", is_adx && self.audio_differs(&chunk)),
+                _ => return None,
+            };
+            differs.then_some(Shows { stream, at: chunk.start })
+        }))
+    }
+
+    /// Every row of a masked payload depends on the whole key table.
+    fn video_differs(&self, chunk: &Chunk) -> bool {
+        chunk.data_type == 0 && chunk.payload.len() >= VIDEO_SHOWS_FROM && !self.same_streams()
+    }
+
+    /// The bytes after the first 0x140 are XORed with A, repeating.
+    fn audio_differs(&self, chunk: &Chunk) -> bool {
+        let [first, second] = [self.first, self.second].map(|key| usm::key_table(key).a);
+        let lanes = chunk.payload.len().saturating_sub(ADX_SHOWS_FROM - 1).min(first.len());
+        chunk.data_type == 0 && first[..lanes] != second[..lanes]
     }
 
     fn object(&self) -> Object {

@@ -23,6 +23,7 @@ mod placing;
 mod profile;
 mod progress;
 mod salvage;
+mod statement;
 mod table;
 mod trouble;
 
@@ -58,6 +59,7 @@ enum Command {
     Csv(csv_files::Csv),
     Salvage(salvage::Salvage),
     Profile(profile::Profile),
+    Statement(statement::Statement),
     #[command(hide = true)]
     Completions(completions::Completions),
 }
@@ -81,6 +83,7 @@ fn run(command: Command) -> Status {
         Command::Csv(csv) => csv.run(),
         Command::Salvage(salvage) => salvage.run(),
         Command::Profile(profile) => profile.run(),
+        Command::Statement(statement) => statement.run(),
         Command::Completions(completions) => completions.run(),
     }
 }

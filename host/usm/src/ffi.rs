@@ -126,6 +126,21 @@ pub struct ProfileReply {
     pub stream: u8,
 }
 
+#[repr(C)]
+#[derive(Clone, Copy, Debug)]
+pub struct Tenant {
+    pub number: u64,
+    pub key: u64,
+}
+
+#[repr(C)]
+#[derive(Clone, Copy, Debug)]
+pub struct Share {
+    pub tenant: u64,
+    pub group: u64,
+    pub share: u64,
+}
+
 // What usm.h says of these sizes.
 const _: () = assert!(size_of::<Reading>() == 4);
 const _: () = assert!(size_of::<Key>() == 16);
@@ -138,6 +153,8 @@ const _: () = assert!(size_of::<SizeReply>() == 24);
 const _: () = assert!(size_of::<Packing>() == 32);
 const _: () = assert!(size_of::<SalvageReply>() == 32);
 const _: () = assert!(size_of::<ProfileReply>() == 24);
+const _: () = assert!(size_of::<Tenant>() == 16);
+const _: () = assert!(size_of::<Share>() == 24);
 
 #[link(name = "player", kind = "static")]
 unsafe extern "C" {
@@ -188,6 +205,14 @@ unsafe extern "C" {
     -> SizeReply;
     fn usm_salvage(container: *const u8, len: usize) -> SalvageReply;
     fn usm_profile(container: *const u8, len: usize) -> ProfileReply;
+    fn usm_statement(
+        container: *const u8,
+        len: usize,
+        tenants: *const Tenant,
+        count: usize,
+        lines: *mut Share,
+        room: usize,
+    ) -> ListReply;
 }
 
 // SAFETY, for every call below: each pointer and length are those of one slice, or of a vector's room, that is lent to
@@ -278,6 +303,14 @@ fn extract_to(
 pub fn list(container: &[u8], reading: Reading, chunks: &mut Vec<Chunk>) -> ListReply {
     fill_list(chunks, |room| unsafe {
         usm_list(container.as_ptr(), container.len(), reading, room.as_mut_ptr().cast(), room.len())
+    })
+}
+
+/// The shares of a film's bytes, likewise.
+pub fn statement(container: &[u8], tenants: &[Tenant], shares: &mut Vec<Share>) -> ListReply {
+    fill_list(shares, |room| unsafe {
+        let lines = room.as_mut_ptr().cast();
+        usm_statement(container.as_ptr(), container.len(), tenants.as_ptr(), tenants.len(), lines, room.len())
     })
 }
 

@@ -26,6 +26,7 @@
 //! | pack streams into a film | [`pack`], [`pack_into`] |
 //! | save what arrived of a film that was cut | [`salvage()`] |
 //! | check a film against the delivery profile | [`profile()`] |
+//! | divide a film's bytes among tenants | [`statement()`] |
 //! | write a table as CSV | [`csv()`] |
 //!
 //! Every film, damaged or hostile, has an answer: a result or a [`Refusal`] with a number, a place and a reason. No
@@ -46,6 +47,7 @@ mod reading;
 mod refusal;
 mod salvage;
 mod sized;
+mod statement;
 mod tables;
 
 #[cfg(feature = "cridecoder")]
@@ -60,6 +62,7 @@ pub use profile::{Offence, Rule, profile};
 pub use reading::{Audio, Payloads, Reading};
 pub use refusal::{Reason, Refusal};
 pub use salvage::{Salvaged, salvage};
+pub use statement::{Share, Tenant, statement};
 pub use tables::{Cell, Column, Row, Table, csv, csv_into, csv_size, table};
 
 /// The bytes of the longest film that is read: 1 GiB.

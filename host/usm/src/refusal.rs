@@ -57,6 +57,8 @@ pub enum Reason {
     ShortHeader,
     /// 21: no beginning of the film is accepted.
     NoBeginning,
+    /// 22: no tenant, over 16 of them, or a number twice.
+    BadTenants,
     /// 23: an audio codec without audio.
     CodecAlone,
     /// Another number than those above. The functions of this crate give none.
@@ -97,6 +99,7 @@ impl Reason {
             15 => Reason::MarkedPayload,
             17 => Reason::ShortHeader,
             21 => Reason::NoBeginning,
+            22 => Reason::BadTenants,
             23 => Reason::CodecAlone,
             number => Reason::Other(number),
         }
@@ -121,6 +124,7 @@ impl Reason {
             Reason::MarkedPayload => 15,
             Reason::ShortHeader => 17,
             Reason::NoBeginning => 21,
+            Reason::BadTenants => 22,
             Reason::CodecAlone => 23,
             Reason::Other(number) => number,
         }
@@ -144,6 +148,7 @@ impl fmt::Display for Reason {
             Reason::MarkedPayload => f.write_str("a payload that begins with #CONTENTS END"),
             Reason::ShortHeader => f.write_str("a header that is too short"),
             Reason::NoBeginning => f.write_str("no beginning of it is accepted"),
+            Reason::BadTenants => f.write_str("no tenant, over 16 of them, or a number twice"),
             Reason::CodecAlone => f.write_str("an audio codec without audio"),
             Reason::Other(number) => write!(f, "reason {number}"),
         }

@@ -12,5 +12,6 @@ mod output;
 mod pack;
 mod profile;
 mod salvage;
+mod statement;
 mod support;
 mod table;

@@ -30,6 +30,10 @@ fn a_full_disk_is_an_error() {
         "salvage song.usm --force --json",
         "profile f.usm",
         "profile --json f.usm",
+        "keys 1 2 f.usm",
+        "statement <(echo 1,2) f.usm",
+        "statement --csv <(echo 1,2) f.usm",
+        "statement --json <(echo 1,2) f.usm",
         "--help",
         "info --help",
         "--version",
@@ -100,7 +104,19 @@ fn the_same_with_many_at_once() {
         }
         folder.write(&format!("{number:02}.usm"), &film);
     }
-    let commands = ["info", "list", "table", "info --json", "list --json", "list --csv", "profile", "profile --json"];
+    let commands = [
+        "info",
+        "list",
+        "table",
+        "info --json",
+        "list --json",
+        "list --csv",
+        "profile",
+        "profile --json",
+        "keys 1 2",
+        "statement <(echo 1,2)",
+        "statement --csv <(echo 1,2)",
+    ];
     for command in commands {
         let one = folder.shell(&format!("$USM {command} ."));
         let many = folder.shell(&format!("$USM {command} -j ."));

@@ -1,0 +1,154 @@
+use films::{Film, Header};
+
+use crate::support::{Folder, KEY};
+
+/// A folder with films, and three tenants: two whose keys give the same streams for the song, and another.
+fn with_tenants() -> Folder {
+    let folder = Folder::with_films();
+    folder.write("tenants.csv", format!("tenant,key\r\n7,{KEY}\r\n3,0xFF23456789abcdef\r\n9,0\r\n").as_bytes());
+    folder
+}
+
+#[test]
+fn shares_and_totals() {
+    let folder = with_tenants();
+    folder.usm(&["statement", "tenants.csv", "song.usm", "cut.usm", "f.usm"]).expect(
+        1,
+        "song.usm\n\
+        \x20             tenant                 group         bytes\n\
+        \x20                  3                     3          1095\n\
+        \x20                  7                     3          1094\n\
+        \x20                  9                     9          2189\n\
+         \n\
+         f.usm\n\
+        \x20             tenant                 group         bytes\n\
+        \x20                  3                     3            11\n\
+        \x20                  7                     3            11\n\
+        \x20                  9                     3            10\n\
+         \n\
+         total of 2 films\n\
+        \x20             tenant                               bytes\n\
+        \x20                  3                                1106\n\
+        \x20                  7                                1105\n\
+        \x20                  9                                2199\n",
+        "usm: cut.usm: refused 1 at 384: bytes run out\n",
+    );
+    folder.usm(&["statement", "tenants.csv", "cut.usm"]).expect(
+        1,
+        "",
+        "usm: cut.usm: refused 1 at 384: bytes run out\n",
+    );
+}
+
+#[test]
+fn the_order_of_tenants_moves_no_line() {
+    let folder = with_tenants();
+    folder.write("sorted.csv", format!("9,0\n3,FF23456789ABCDEF\n7,{KEY}\n").as_bytes());
+    let [one, other] =
+        ["tenants.csv", "sorted.csv"].map(|tenants| folder.usm(&["statement", tenants, "song.usm", "f.usm"]));
+    assert_eq!(one, other);
+    assert_eq!(one.status, 0);
+}
+
+#[test]
+fn csv_and_json() {
+    let folder = with_tenants();
+    folder.usm(&["statement", "--csv", "tenants.csv", "song.usm", "f.usm"]).expect(
+        0,
+        "file,tenant,group,bytes\r\n\
+         song.usm,3,3,1095\r\nsong.usm,7,3,1094\r\nsong.usm,9,9,2189\r\n\
+         f.usm,3,3,11\r\nf.usm,7,3,11\r\nf.usm,9,3,10\r\n\
+         ,3,,1106\r\n,7,,1105\r\n,9,,2199\r\n",
+        "",
+    );
+    folder.write("one.csv", b"18446744073709551615,0");
+    folder.usm(&["statement", "--json", "one.csv", "f.usm"]).expect(
+        0,
+        "{\"file\":\"f.usm\",\"file_hex\":\"662e75736d\",\"shares\":[{\"tenant\":\"18446744073709551615\",\
+         \"group\":\"18446744073709551615\",\"bytes\":\"32\"}]}\n\
+         {\"films\":1,\"totals\":[{\"tenant\":\"18446744073709551615\",\"bytes\":\"32\"}]}\n",
+        "",
+    );
+    assert_eq!(folder.usm(&["statement", "--csv", "--json", "one.csv", "f.usm"]).status, 2);
+}
+
+#[test]
+fn tenants_that_can_not_be() {
+    let folder = with_tenants();
+    let rule = "no tenant, over 16 of them, or a number twice";
+    let seventeen: String = (0..17).map(|number| format!("{number},0\n")).collect();
+    for (text, what) in [
+        ("", rule),
+        ("tenant,key\n", rule),
+        ("1,2\n1,3\n", rule),
+        (&seventeen, rule),
+        ("1,2\nx,3\n", "line 2: x is no tenant's number"),
+        ("-1,3\n", "line 1: -1 is no tenant's number"),
+        ("18446744073709551616,3\n", "line 1: 18446744073709551616 is no tenant's number"),
+        ("1,xyz\n", "line 1: xyz is no key: a key is 1 to 16 hex digits, with or without 0x"),
+        ("1\n", "record 1: it is no number and key"),
+        ("1,2,3\n", "record 1: it is no number and key"),
+    ] {
+        folder.write("wrong.csv", text.as_bytes());
+        folder.usm(&["statement", "wrong.csv", "f.usm"]).expect(2, "", &format!("usm: wrong.csv: {what}\n"));
+    }
+    let run = folder.usm(&["statement", "none.csv", "f.usm"]);
+    assert_eq!((run.status, run.out.as_str()), (2, ""));
+    assert!(run.err.starts_with("usm: none.csv: "), "{}", run.err);
+    folder.write("decimal.csv", b"1,99\n");
+    let run = folder.usm(&["statement", "decimal.csv", "f.usm"]);
+    assert!(run.status == 0 && run.err.starts_with("usm: note: 99 is read as hex"), "{}", run.err);
+    assert_eq!(folder.usm(&["statement", "tenants.csv"]).status, 2);
+}
+
+#[test]
+fn keys_on_films() {
+    let folder = with_tenants();
+    let run = folder.usm(&["keys", KEY, "FF23456789ABCDEF", "song.usm"]);
+    assert!(run.out.ends_with("\nsong.usm: the same streams under both keys\n"), "{}", run.out);
+    let run = folder.usm(&["keys", KEY, "0", "f.usm", "cut.usm", "song.usm"]);
+    assert_eq!((run.status, run.err.as_str()), (1, "usm: cut.usm: refused 1 at 384: bytes run out\n"));
+    let films = "\nf.usm: the same streams under both keys\n\
+                 \nsong.usm: different streams, first in the video payload of the chunk at 704\n";
+    assert!(run.out.ends_with(films), "{}", run.out);
+    let run = folder.usm(&["keys", "--json", KEY, "0", "song.usm", "f.usm"]);
+    let films = "{\"file\":\"song.usm\",\"file_hex\":\"736f6e672e75736d\",\"same_streams\":false,\
+                 \"differs_in\":\"video\",\"differs_at\":\"704\"}\n\
+                 {\"file\":\"f.usm\",\"file_hex\":\"662e75736d\",\"same_streams\":true}\n";
+    assert!(run.out.ends_with(films), "{}", run.out);
+    assert_eq!(run.out.lines().count(), 3);
+}
+
+/// The first payload that shows two keys, for all lengths around the edges: as unmasking under both has it.
+#[test]
+fn the_first_payload_that_shows_it() {
+    let folder = Folder::new();
+    let keys = [0x0123_4567_89AB_CDEF_u64, 0x0123_4567_89AB_CDEE, 0x0123_FF67_89AB_CDEF, 0xFF23_4567_89AB_CDEF];
+    let lengths = [0x100, 0x13F, 0x140, 0x141, 0x142, 0x150, 0x158, 0x159, 0x160, 0x23F, 0x240, 0x241];
+    for key in &keys[1..] {
+        for letters in [b"@SFV", b"@SFA"] {
+            let mut film = Film::new(&Header { audio: Some(Some(2)), ..Header::default() });
+            let mut shown = None;
+            for length in lengths {
+                let start = film.bytes.len();
+                film.chunk(letters, 0, 0, &vec![7; length]);
+                let stream = if letters == b"@SFV" { usm::Stream::Video } else { usm::Stream::Audio };
+                let [one, other] = [keys[0], *key].map(|key| {
+                    let mut payload = vec![7; length];
+                    usm::unmask(stream, key, &mut payload);
+                    payload
+                });
+                if one != other {
+                    shown.get_or_insert(start);
+                }
+            }
+            folder.write("film.usm", &film.bytes);
+            let run = folder.usm(&["keys", "--json", &format!("{:x}", keys[0]), &format!("{key:x}"), "film.usm"]);
+            let expected = match shown {
+                Some(at) => format!("\"differs_at\":\"{at}\"}}\n"),
+                None => "\"same_streams\":true}\n".to_string(),
+            };
+            assert!(run.out.ends_with(&expected), "{key:x} {expected} {}", run.out);
+        }
+    }
+}

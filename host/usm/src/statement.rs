@@ -1,0 +1,41 @@
+//! What tenants owe for the copies of a film.
+
+use crate::{Refusal, ffi};
+
+/// A tenant and the key under which it has a film.
+#[derive(Clone, Copy, PartialEq, Eq, Hash, Debug)]
+pub struct Tenant {
+    pub number: u64,
+    pub key: u64,
+}
+
+/// What a tenant owes: a part of the bytes of the copy that its group has together.
+#[derive(Clone, Copy, PartialEq, Eq, Hash, Debug)]
+#[non_exhaustive]
+pub struct Share {
+    pub tenant: u64,
+    /// The lowest tenant of its group. Tenants are in one group exactly where their streams are the same.
+    pub group: u64,
+    pub bytes: u64,
+}
+
+/// The shares of up to 16 tenants in a film's copies, by rising tenant, whatever the order of the tenants. Shares of a
+/// group sum to the size of both streams and differ by one byte at most (proved).
+///
+/// ```
+/// use usm::Tenant;
+///
+/// let film = std::fs::read("tests/song.usm")?;
+/// let tenants = [(7, 0x0123456789ABCDEF), (3, 0xFF23456789ABCDEF), (9, 0)];
+/// let shares = usm::statement(&film, &tenants.map(|(number, key)| Tenant { number, key }))?;
+/// assert_eq!((shares[0].tenant, shares[0].group, shares[0].bytes), (3, 3, 2189));
+/// # Ok::<(), Box<dyn std::error::Error>>(())
+/// ```
+pub fn statement(film: &[u8], tenants: &[Tenant]) -> Result<Vec<Share>, Refusal> {
+    let tenants: Vec<ffi::Tenant> =
+        tenants.iter().map(|tenant| ffi::Tenant { number: tenant.number, key: tenant.key }).collect();
+    let mut lines = Vec::with_capacity(tenants.len());
+    let reply = ffi::statement(film, &tenants, &mut lines);
+    Refusal::told(reply.number, reply.refused_at, reply.unknown_type)?;
+    Ok(lines.iter().map(|line| Share { tenant: line.tenant, group: line.group, bytes: line.share }).collect())
+}
