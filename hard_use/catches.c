@@ -17,7 +17,7 @@
 static const uint8_t TABLE[] = {'@', 'U', 'T', 'F', 0, 0, 0, 33, 0, 1, 0, 30, 0, 0, 0, 30, 0, 0, 0, 33, 0,
                                 0,   0,   0,   0,   1, 0, 0, 0,  0, 0, 1, 0x30, 0, 0, 0, 0, 7, 'i', 'd', 0};
 
-static struct memory read_only, second_read_only, written, second_written;
+static struct memory read_only, second_read_only, third_read_only, written, second_written;
 static struct chance chance;
 static struct song song;
 static uint8_t f[F_BYTES];
@@ -118,6 +118,88 @@ static void list_records(size_t lacks)
     list(0, lacks);
 }
 
+/* Indexes F, likewise; the film or the index is too long. */
+static void index_f(size_t film, size_t entries)
+{
+    size_t entry = sizeof(struct usm_index_entry);
+
+    usm_index(film_of(f, 429, film), 429,
+              (struct usm_index_entry *)(void *)lacking(&written, entry, entries * entry), 1);
+}
+
+static void index_film(size_t lacks)
+{
+    index_f(lacks, 0);
+}
+
+static void index_entries(size_t lacks)
+{
+    index_f(0, lacks);
+}
+
+static void seek(size_t lacks)
+{
+    static const struct usm_index_entry entry = {0, F_VIDEO, 32};
+
+    usm_seek((const struct usm_index_entry *)(const void *)film_of((const uint8_t *)&entry, sizeof entry,
+                                                                    lacks * sizeof entry),
+             1, 0);
+}
+
+static void profile(size_t lacks)
+{
+    usm_profile(film_of(f, 429, lacks), 429);
+}
+
+/* Writes the table as CSV; the table or the output is too long. */
+static void csv(size_t bytes, size_t out)
+{
+    size_t size = usm_csv(TABLE, sizeof TABLE, 0, USM_READ_WITH_AUDIO, NULL, 0).size;
+
+    usm_csv(film_of(TABLE, sizeof TABLE, bytes), sizeof TABLE, 0, USM_READ_WITH_AUDIO, lacking(&written, size, out),
+            size);
+}
+
+static void csv_table(size_t lacks)
+{
+    csv(lacks, 0);
+}
+
+static void csv_output(size_t lacks)
+{
+    csv(0, lacks);
+}
+
+/* Writes a film with a name and streams of 33 bytes; one of the four slices is too long. */
+static void write_film(size_t name, size_t video, size_t audio, size_t out)
+{
+    struct usm_packing packing = {{0, 0}, 0, 0, 1, 0, 0};
+    size_t len = 33, size = usm_write(TABLE, len, f, len, f, len, packing, NULL, 0).size;
+
+    usm_write(film_of(TABLE, len, name), len, lend_bytes(&second_read_only, ENDS, f, len - video), len,
+              lend_bytes(&third_read_only, ENDS, f, len - audio), len, packing, lacking(&written, size, out), size);
+}
+
+static void write_name(size_t lacks)
+{
+    write_film(lacks, 0, 0, 0);
+}
+
+static void write_video(size_t lacks)
+{
+    write_film(0, lacks, 0, 0);
+}
+
+static void write_audio(size_t lacks)
+{
+    write_film(0, 0, lacks, 0);
+}
+
+static void write_output(size_t lacks)
+{
+    write_film(0, 0, 0, lacks);
+}
+
 /* A slice that begins at the page, and a call that begins before it. */
 static void before(size_t lacks)
 {
@@ -149,6 +231,16 @@ static const struct {
     {"usm_extract, the audio output", extract_audio},
     {"usm_list, the container", list_film},
     {"usm_list, the list", list_records},
+    {"usm_index, the container", index_film},
+    {"usm_index, the index", index_entries},
+    {"usm_seek, the index", seek},
+    {"usm_profile, the container", profile},
+    {"usm_csv, the bytes", csv_table},
+    {"usm_csv, the output", csv_output},
+    {"usm_write, the name", write_name},
+    {"usm_write, the video", write_video},
+    {"usm_write, the audio", write_audio},
+    {"usm_write, the output", write_output},
     {"usm_key_table, one byte before the buffer", before},
     {"usm_unmask_audio, a payload that is read-only", read_only_payload},
 };
@@ -183,6 +275,7 @@ int show_catches(void)
 
     make_memory(&read_only, SONG_BYTES, 1);
     make_memory(&second_read_only, SONG_BYTES, 1);
+    make_memory(&third_read_only, SONG_BYTES, 1);
     make_memory(&written, SONG_BYTES, 0);
     make_memory(&second_written, SONG_BYTES, 0);
     make_f(f);
