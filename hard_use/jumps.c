@@ -1,7 +1,7 @@
 /*
  * usm_index, usm_seek and usm_profile on films made by chance, in slices at the edge of pages that may not be touched,
- * beside the plainest model: one chunk after the other, one entry after the other. Then a jump among a million entries,
- * timed. The status is 1 where an answer or a byte beside a slice is not as expected. See README.md.
+ * beside the plainest model: one chunk after the other, one entry after the other. Then jumps among up to a million
+ * entries, timed. The status is 1 where an answer or a byte beside a slice is not as expected. See README.md.
  *
  *     jumps [CASES [SEED]]
  */
@@ -18,7 +18,11 @@
 #define MOST_BYTES 4096
 #define MOST_ENTRIES 64
 #define MILLION 1000000
-#define JUMPS 4000000
+
+/* The bytes of each payload where jumps are timed, and how many jumps at a time. */
+#define EACH ((uint64_t)1000)
+#define BATCHES 1001
+#define JUMPS 2000
 
 struct film {
     uint8_t bytes[MOST_BYTES];
@@ -44,8 +48,8 @@ static uint32_t number_at(const uint8_t *bytes, size_t at, size_t count)
 }
 
 /* A block or a chunk: letters, sizes, and what it holds, up to a multiple of 0x20. */
-static void put(struct film *film, const char *letters, const void *inside, size_t len, unsigned header, unsigned footer,
-                size_t size)
+static void put(struct film *film, const char *letters, const void *inside, size_t len, unsigned header,
+                unsigned footer, size_t size)
 {
     uint8_t *at = film->bytes + film->len;
 
@@ -179,10 +183,12 @@ static int same_jump(struct usm_seek_reply a, struct usm_seek_reply b)
     return a.chunk == b.chunk && a.offset == b.offset && a.found == b.found;
 }
 
-static void try_film(struct memory *given, struct memory *lent, enum edge edge, struct chance *chance, unsigned long number)
+static void try_film(struct memory *given, struct memory *lent, enum edge edge, struct chance *chance,
+                     unsigned long number)
 {
     struct film film;
     struct usm_index_entry entries[MOST_ENTRIES];
+    const struct usm_index_entry *index;
     struct usm_list_reply silent, heard, reply;
     struct usm_profile_reply judged, rule;
     struct output list;
@@ -200,19 +206,22 @@ static void try_film(struct memory *given, struct memory *lent, enum edge edge, 
 
     judged = usm_profile(bytes, film.len);
     rule = profile_of(&film, heard);
-    expect(judged.refused_at == rule.refused_at && judged.place == rule.place && judged.number == rule.number && judged.rule == rule.rule
-           && judged.stream == rule.stream && judged.unknown_type == heard.unknown_type, "usm_profile", number);
+    expect(judged.refused_at == rule.refused_at && judged.place == rule.place && judged.number == rule.number &&
+               judged.rule == rule.rule && judged.stream == rule.stream && judged.unknown_type == heard.unknown_type,
+           "usm_profile", number);
 
     count = silent.number == 0 ? entries_of(&film, entries) : 0;
     room = below(chance, count + 3);
     list = lend_output(lent, edge, room * sizeof *entries, chance);
     reply = usm_index(bytes, film.len, (struct usm_index_entry *)(void *)list.at, room);
     if (silent.number != 0) {
-        expect(reply.number == silent.number && reply.refused_at == silent.refused_at && reply.count == 0, "usm_index, refused", number);
+        expect(reply.number == silent.number && reply.refused_at == silent.refused_at && reply.count == 0,
+               "usm_index, refused", number);
         expect(stays_from(&list, 0), "usm_index, a refusal changes the list", number);
         return;
     }
-    expect(reply.count == count && reply.refused_at == 0 && reply.number == (room < count ? USM_SHORT_LIST : 0), "usm_index", number);
+    expect(reply.count == count && reply.refused_at == 0 && reply.number == (room < count ? USM_SHORT_LIST : 0),
+           "usm_index", number);
     if (room < count) {
         expect(stays_from(&list, 0), "usm_index, 13 changes the list", number);
         return;
@@ -222,8 +231,9 @@ static void try_film(struct memory *given, struct memory *lent, enum edge edge, 
 
     list = lend_output(lent, edge, count * sizeof *entries, chance);
     memcpy(list.at, entries, count * sizeof *entries);
+    index = (const struct usm_index_entry *)(void *)list.at;
     for (i = 0; i < 80; i++)
-        expect(same_jump(usm_seek((const struct usm_index_entry *)(void *)list.at, count, i), sought(entries, count, i)), "usm_seek", number);
+        expect(same_jump(usm_seek(index, count, i), sought(entries, count, i)), "usm_seek", number);
 }
 
 /* Entries by chance: an answer is one of them, that begins at or before the byte and reaches past it. */
@@ -236,7 +246,8 @@ static void try_chance(struct memory *lent, enum edge edge, struct chance *chanc
     struct usm_seek_reply reply = usm_seek(index, count, byte);
 
     for (i = 0; i < count && reply.found; i++)
-        if (index[i].chunk == reply.chunk && index[i].place <= byte && byte - index[i].place == reply.offset && reply.offset < index[i].length)
+        if (index[i].chunk == reply.chunk && index[i].place <= byte && byte - index[i].place == reply.offset &&
+            reply.offset < index[i].length)
             break;
     expect(reply.found ? i < count : reply.chunk == 0 && reply.offset == 0, "usm_seek, entries by chance", number);
 }
@@ -245,29 +256,50 @@ static double seconds(void)
 {
     struct timespec now;
 
-    clock_gettime(CLOCK_PROCESS_CPUTIME_ID, &now);
+    clock_gettime(CLOCK_MONOTONIC, &now);
     return (double)now.tv_sec + (double)now.tv_nsec / 1e9;
 }
 
-static void time_jumps(void)
+static int by_size(const void *a, const void *b)
 {
-    struct usm_index_entry *index = malloc(MILLION * sizeof *index);
-    struct chance chance = chance_of(1, 1);
-    uint64_t sum = 0;
-    double start;
+    double x = *(const double *)a, y = *(const double *)b;
+
+    return (x > y) - (x < y);
+}
+
+/* Jumps to bytes at random among so many entries, by the clock on the wall. */
+static void time_jumps(const struct usm_index_entry *index, size_t count)
+{
+    struct chance chance = chance_of(1, count);
+    double took[BATCHES];
+    size_t batch, i;
+
+    for (batch = 0; batch < BATCHES; batch++) {
+        double start = seconds();
+
+        for (i = 0; i < JUMPS; i++)
+            expect(usm_seek(index, count, any(&chance) % (count * EACH)).found, "usm_seek, a byte that is there", i);
+        took[batch] = (seconds() - start) / JUMPS * 1e9;
+    }
+    qsort(took, BATCHES, sizeof *took, by_size);
+    printf("jumps: entries %zu, ns a jump: the median %.0f, the best %.0f, of %d times %d jumps\n", count,
+           took[BATCHES / 2], took[0], BATCHES, JUMPS);
+}
+
+static void time_all_jumps(void)
+{
+    struct usm_index_entry *index = (struct usm_index_entry *)malloc(MILLION * sizeof *index);
     size_t i;
 
     if (index == NULL)
-        exit(1);
+        exit(2);
     for (i = 0; i < MILLION; i++) {
-        index[i].place = i * 1000;
-        index[i].chunk = i * 1056;
-        index[i].length = 1000;
+        index[i].place = i * EACH;
+        index[i].chunk = i * (EACH + 56);
+        index[i].length = EACH;
     }
-    start = seconds();
-    for (i = 0; i < JUMPS; i++)
-        sum += usm_seek(index, MILLION, any(&chance) % (uint64_t)(MILLION * 1000ul)).offset;
-    printf("a jump among %d entries, at random places: %.0f ns (%u)\n", MILLION, (seconds() - start) / JUMPS * 1e9, (unsigned)(sum & 1));
+    for (i = 1; i <= MILLION; i *= 10)
+        time_jumps(index, i);
     free(index);
 }
 
@@ -286,6 +318,6 @@ int main(int argc, char **argv)
         try_chance(&lent, i % 2 ? ENDS : BEGINS, &chance, i);
     }
     printf("jumps and profiles: %lu films, %lu wrong\n", cases, (unsigned long)wrong);
-    time_jumps();
+    time_all_jumps();
     return wrong != 0;
 }
