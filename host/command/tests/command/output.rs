@@ -114,14 +114,14 @@ fn the_same_with_many_at_once() {
         "profile",
         "profile --json",
         "keys 1 2",
-        "statement <(echo 1,2)",
-        "statement --csv <(echo 1,2)",
+        "statement <(echo 3,2; echo 1,4; echo 2,2)",
+        "statement --csv <(echo 3,2; echo 1,4; echo 2,2)",
     ];
     for command in commands {
         let one = folder.shell(&format!("$USM {command} ."));
         let many = folder.shell(&format!("$USM {command} -j ."));
         assert_eq!(one.status, 1, "{}", one.err);
-        assert!(one.out.len() > 1000);
+        assert!(one.out.len() > 1000, "{command}: {}", one.out);
         assert_eq!(many, one, "{command}");
     }
 }
