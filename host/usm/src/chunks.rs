@@ -2,7 +2,7 @@
 
 use std::fmt;
 
-use crate::{Reading, Refusal, ffi};
+use crate::{Reading, Refusal, ffi, sized};
 
 /// The chunks of a film, in their order. It holds 24 bytes for each.
 #[derive(Clone, Debug)]
@@ -51,9 +51,7 @@ pub enum ChunkKind {
 /// # Ok::<(), Box<dyn std::error::Error>>(())
 /// ```
 pub fn list(film: &[u8], reading: Reading) -> Result<Chunks<'_>, Refusal> {
-    let mut records = Vec::with_capacity(count(film, reading)?);
-    let reply = ffi::list(film, reading.for_c(), &mut records);
-    Refusal::told(reply.number, reply.refused_at, reply.unknown_type)?;
+    let records = sized::listed(|records| ffi::list(film, reading.for_c(), records))?;
     Ok(Chunks { film, records })
 }
 
@@ -65,13 +63,7 @@ pub fn list(film: &[u8], reading: Reading) -> Result<Chunks<'_>, Refusal> {
 /// # Ok::<(), Box<dyn std::error::Error>>(())
 /// ```
 pub fn count(film: &[u8], reading: Reading) -> Result<usize, Refusal> {
-    /// The number of a list that is too short; the reply has the count then.
-    const SHORT_LIST: u8 = 13;
-    let reply = ffi::list(film, reading.for_c(), &mut Vec::new());
-    if reply.number != SHORT_LIST {
-        Refusal::told(reply.number, reply.refused_at, reply.unknown_type)?;
-    }
-    Ok(reply.count)
+    sized::count_of(|records| ffi::list(film, reading.for_c(), records))
 }
 
 impl<'a> Chunks<'a> {

@@ -141,6 +141,22 @@ pub struct Share {
     pub share: u64,
 }
 
+#[repr(C)]
+#[derive(Clone, Copy, Debug)]
+pub struct IndexEntry {
+    pub place: u64,
+    pub chunk: u64,
+    pub length: u64,
+}
+
+#[repr(C)]
+#[derive(Clone, Copy)]
+pub struct SeekReply {
+    pub chunk: u64,
+    pub offset: u64,
+    pub found: u8,
+}
+
 // What usm.h says of these sizes.
 const _: () = assert!(size_of::<Reading>() == 4);
 const _: () = assert!(size_of::<Key>() == 16);
@@ -155,6 +171,8 @@ const _: () = assert!(size_of::<SalvageReply>() == 32);
 const _: () = assert!(size_of::<ProfileReply>() == 24);
 const _: () = assert!(size_of::<Tenant>() == 16);
 const _: () = assert!(size_of::<Share>() == 24);
+const _: () = assert!(size_of::<IndexEntry>() == 24);
+const _: () = assert!(size_of::<SeekReply>() == 24);
 
 #[link(name = "player", kind = "static")]
 unsafe extern "C" {
@@ -213,6 +231,8 @@ unsafe extern "C" {
         lines: *mut Share,
         room: usize,
     ) -> ListReply;
+    fn usm_index(container: *const u8, len: usize, index: *mut IndexEntry, room: usize) -> ListReply;
+    fn usm_seek(index: *const IndexEntry, count: usize, byte: u64) -> SeekReply;
 }
 
 // SAFETY, for every call below: each pointer and length are those of one slice, or of a vector's room, that is lent to
@@ -314,6 +334,13 @@ pub fn statement(container: &[u8], tenants: &[Tenant], shares: &mut Vec<Share>) 
     })
 }
 
+/// The index of a film's video, likewise.
+pub fn index(container: &[u8], entries: &mut Vec<IndexEntry>) -> ListReply {
+    fill_list(entries, |room| unsafe {
+        usm_index(container.as_ptr(), container.len(), room.as_mut_ptr().cast(), room.len())
+    })
+}
+
 fn fill_list<T>(list: &mut Vec<T>, call: impl FnOnce(&mut [MaybeUninit<T>]) -> ListReply) -> ListReply {
     list.clear();
     let reply = call(list.spare_capacity_mut());
@@ -326,6 +353,10 @@ fn fill_list<T>(list: &mut Vec<T>, call: impl FnOnce(&mut [MaybeUninit<T>]) -> L
 
 pub fn salvage(container: &[u8]) -> SalvageReply {
     unsafe { usm_salvage(container.as_ptr(), container.len()) }
+}
+
+pub fn seek(entries: &[IndexEntry], byte: u64) -> SeekReply {
+    unsafe { usm_seek(entries.as_ptr(), entries.len(), byte) }
 }
 
 pub fn profile(container: &[u8]) -> ProfileReply {

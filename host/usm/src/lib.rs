@@ -21,6 +21,7 @@
 //! | extract both streams | [`extract`], [`extract_into`] |
 //! | learn what a film holds | [`outline`], [`sizes`] |
 //! | go through its chunks | [`list`], [`count`] |
+//! | jump to a byte of its video | [`index()`], [`Index::seek`] |
 //! | read the tables of its header, or any @UTF table | [`header_tables`], [`table`] |
 //! | mask and unmask payloads | [`mask`], [`unmask`], [`key_table`] |
 //! | pack streams into a film | [`pack`], [`pack_into`] |
@@ -31,7 +32,7 @@
 //!
 //! Every film, damaged or hostile, has an answer: a result or a [`Refusal`] with a number, a place and a reason. No
 //! input panics. Of memory both streams together take no more than the film's own length, and a list 24 bytes for each
-//! chunk; what is written takes as many bytes as a call tells before.
+//! chunk, an index as many for each video payload; what is written takes as many bytes as a call tells before.
 //!
 //! The feature `cridecoder` has a module with the names and signatures of that crate.
 #![deny(unsafe_code)]
@@ -40,6 +41,7 @@ mod chunks;
 mod ffi;
 mod film;
 mod header;
+mod index;
 mod masks;
 mod pack;
 mod profile;
@@ -56,6 +58,7 @@ pub mod cridecoder;
 pub use chunks::{Chunk, ChunkKind, Chunks, Iter, count, list};
 pub use film::{AudioKind, Film, Outline, Track, VideoKind, extract, extract_into, outline, sizes};
 pub use header::{HeaderTable, header_tables};
+pub use index::{Entry, Index, Place, index};
 pub use masks::{KeyTable, Stream, key_table, mask, unmask};
 pub use pack::{Streams, pack, pack_into, packed_size};
 pub use profile::{Offence, Rule, profile};

@@ -131,6 +131,48 @@ fn chunks_have_letters_channels_and_payloads() {
     assert_eq!(chunks.iter().next_back(), chunks.get(3));
 }
 
+/// The song, a film whose payloads are empty at both ends and twice in a row, one without video, one without chunks.
+fn films_to_jump_in() -> Vec<Vec<u8>> {
+    let mut gaps = Film::new(&Header { audio: Some(None), ..Header::default() });
+    for payload in [&b""[..], b"one", b"", b"", b"three", b""] {
+        gaps.chunk(b"@SFV", 0, 0, payload);
+        gaps.chunk(b"@SFA", 0, 0, b"sound");
+    }
+    let mut silent = Film::new(&Header { audio: Some(None), ..Header::default() });
+    silent.chunk(b"@SFA", 0, 0, b"sound");
+    vec![file("song.usm"), gaps.bytes, silent.bytes, file("f.usm")[..301].to_vec()]
+}
+
+#[test]
+fn a_jump_finds_every_byte_of_the_video_and_none_past_it() {
+    for film in films_to_jump_in() {
+        let index = usm::index(&film).unwrap();
+        let video = usm::extract(&film, without_audio(), None).unwrap().video;
+        let found: Vec<u8> =
+            (0..).map_while(|byte| index.seek(byte)).map(|place| film[place.chunk + 0x20 + place.offset]).collect();
+        assert_eq!(found, video);
+        assert_eq!(index.seek(usize::MAX), None);
+    }
+}
+
+#[test]
+fn an_index_has_the_video_payloads_of_the_list() {
+    for film in films_to_jump_in() {
+        let index = usm::index(&film).unwrap();
+        let mut place = 0;
+        let mut expected = Vec::new();
+        for chunk in &usm::list(&film, without_audio()).unwrap() {
+            if chunk.kind == ChunkKind::Video {
+                expected.push((place, chunk.start, chunk.payload.len()));
+                place += chunk.payload.len();
+            }
+        }
+        let told: Vec<_> = index.entries().map(|entry| (entry.place, entry.chunk, entry.length)).collect();
+        assert_eq!(told, expected);
+        assert_eq!((index.len(), index.is_empty()), (told.len(), told.is_empty()));
+    }
+}
+
 #[test]
 fn refusals_have_number_place_and_reason() {
     let f = file("f.usm");
@@ -182,6 +224,7 @@ fn every_cut_has_one_answer_from_every_function() {
             assert_eq!(usm::list(film, reading).err(), refusal);
             assert_eq!(usm::sizes(film, reading).err(), refusal);
         }
+        assert_eq!(usm::index(film).err(), usm::sizes(film, without_audio()).err());
     }
 }
 

@@ -1,0 +1,87 @@
+//! An index of a film's video: where each byte of the stream stands in the film.
+
+use crate::{Refusal, ffi, sized};
+
+/// Where the video payloads of a film stand, 24 bytes for each. It does not need the film any more.
+#[derive(Clone, Debug)]
+pub struct Index {
+    entries: Vec<ffi::IndexEntry>,
+}
+
+/// A video payload of a film.
+#[derive(Clone, Copy, PartialEq, Eq, Hash, Debug)]
+#[non_exhaustive]
+pub struct Entry {
+    /// Where the payload begins in the video stream.
+    pub place: usize,
+    /// The start of its chunk in the film.
+    pub chunk: usize,
+    /// The bytes of the payload, which may be none.
+    pub length: usize,
+}
+
+/// Where a byte of the video stream stands.
+#[derive(Clone, Copy, PartialEq, Eq, Hash, Debug)]
+#[non_exhaustive]
+pub struct Place {
+    /// The start of its chunk in the film.
+    pub chunk: usize,
+    /// The byte in the chunk's payload, counted from 0. Payloads begin 0x20 bytes after their chunk's start.
+    pub offset: usize,
+}
+
+/// Makes the index of a film's video, for [`Index::seek`]. The film is read as the original reads it, without audio.
+///
+/// ```
+/// let film = std::fs::read("tests/song.usm")?;
+/// let index = usm::index(&film)?;
+/// assert_eq!(index.len(), 3);
+/// let second = index.entries().nth(1).unwrap();
+/// assert_eq!((second.place, second.chunk, second.length), (608, 1792, 256));
+/// # Ok::<(), Box<dyn std::error::Error>>(())
+/// ```
+pub fn index(film: &[u8]) -> Result<Index, Refusal> {
+    sized::listed(|entries| ffi::index(film, entries)).map(|entries| Index { entries })
+}
+
+impl Index {
+    /// Where a byte of the video stream stands, counted from 0; `None` past its end. It is the byte that
+    /// [`extract`](crate::extract) gives there without a key (proved), and found by halving: fewer than 2^k payloads
+    /// take k steps (proved).
+    ///
+    /// ```
+    /// use usm::{Audio, Reading};
+    ///
+    /// let film = std::fs::read("tests/song.usm")?;
+    /// let index = usm::index(&film)?;
+    /// let place = index.seek(700).unwrap();
+    /// assert_eq!((place.chunk, place.offset), (1792, 92));
+    ///
+    /// let stored = usm::extract(&film, Reading::default().with_audio(Audio::None), None)?;
+    /// assert_eq!(film[place.chunk + 0x20 + place.offset], stored.video[700]);
+    /// assert_eq!(index.seek(stored.video.len()), None);
+    /// # Ok::<(), Box<dyn std::error::Error>>(())
+    /// ```
+    pub fn seek(&self, byte: usize) -> Option<Place> {
+        let reply = ffi::seek(&self.entries, byte as u64);
+        (reply.found != 0).then_some(Place { chunk: reply.chunk as usize, offset: reply.offset as usize })
+    }
+
+    /// The video payloads in their order, empty ones too.
+    pub fn entries(&self) -> impl ExactSizeIterator<Item = Entry> + '_ {
+        self.entries.iter().map(|entry| Entry {
+            place: entry.place as usize,
+            chunk: entry.chunk as usize,
+            length: entry.length as usize,
+        })
+    }
+
+    /// How many video payloads there are.
+    pub fn len(&self) -> usize {
+        self.entries.len()
+    }
+
+    pub fn is_empty(&self) -> bool {
+        self.entries.is_empty()
+    }
+}
