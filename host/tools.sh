@@ -61,12 +61,23 @@ run_cargo() {
     (cd "$folder" && RUSTFLAGS='' USM_LIBRARIES=$root/target/staticlib CARGO_TARGET_DIR=$made cargo "$command" "${offline[@]}" "$@")
 }
 
-# The crates of this repository that a library leans on, as crates.txt has them.
-leant_on() {
+# The crates of this repository that a crate names, as crates.txt has them.
+named_by() {
     local crate
     for crate in $(sed -n "s/^$1: //p" "$root/crates.txt"); do
         [ ! -d "$root/crates/$crate" ] || echo "$crate"
     done
+}
+
+# All crates below a library: those that it names, those that they name, and so on.
+leant_on() {
+    local found="" more
+    more=$(named_by "$1")
+    while [ "$more" != "$found" ]; do
+        found=$more
+        more=$({ echo "$found"; for crate in $found; do named_by "$crate"; done } | sort -u)
+    done
+    echo "$found"
 }
 
 # Whether a library is there and no crate has changed since it was written.
