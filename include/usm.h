@@ -1,7 +1,7 @@
 /*
  * usm.h: USM films and their chunks, the masks of their payloads, and @UTF tables, for C and C++.
  *
- * The masks stand in libplayer.a, films, chunks and tables in libusm.a, which `rt staticlib player`
+ * The masks stand in libplayer.a, all else in libusm.a, which `rt staticlib player`
  * and `rt staticlib usm` write to target/staticlib/. Both link into x86-64 Linux programs and shared
  * objects, position independent or not, alone or together, and need no other library: of C's they
  * call memcpy, memmove and memset at most.
@@ -81,12 +81,12 @@ void usm_mask_audio(uint64_t key, uint8_t *payload, size_t len);
 
 /*
  * Replies. Every function below returns its reply, a struct by value that has a name for each thing.
- * Three fields are in all of them:
+ * Three fields are in all of them but that of usm_seek, which refuses nothing:
  *
  *     number        0 where the answer is accepted, another where it is refused, as follows
  *     refused_at    the place that is refused: in a film the start of the block or chunk being read,
- *                   which may lie past the container's end, and 0 beside 2 and 11 to 14; for a table
- *                   that is read by itself, the table's own
+ *                   which may lie past the container's end, and 0 beside 2, 11 to 16 and 21 to 23;
+ *                   for a table that is read by itself, the table's own
  *     unknown_type  beside USM_UNKNOWN_TYPE the column type: 7, 9 or 12 to 15
  *
  * A field that has no meaning in a reply is 0. A refusal writes nothing: all outputs and the list are
@@ -103,10 +103,11 @@ void usm_mask_audio(uint64_t key, uint8_t *payload, size_t len);
 #define USM_UNKNOWN_TYPE 8    /* an unknown column type */
 #define USM_TOO_SMALL 9       /* a table size below 24, or a block size below header plus footer size */
 #define USM_TOO_MANY 10       /* over 64 columns or 256 rows in a table */
-#define USM_TOO_LONG 11       /* a container of over USM_CONTAINER_BYTES */
+#define USM_TOO_LONG 11       /* a container of over USM_CONTAINER_BYTES, read or to be written */
 #define USM_SHORT_OUTPUT 12   /* the video or the audio output is too short */
-#define USM_SHORT_LIST 13     /* the chunk list is too short */
-/* 14: struck, cannot occur. Both streams together never exceed the container (proved). No other reason gets the number. */
+#define USM_SHORT_LIST 13     /* the chunk list, the index or the list of lines is too short */
+/* 14: struck, cannot occur. Both streams together never exceed the container (proved). The number is
+ * not used again. */
 #define USM_MARKED_PAYLOAD 15 /* a payload that would be written begins with the end marker */
 #define USM_SHORT_ROOM 16     /* the output is too short for what would be written */
 #define USM_SHORT_HEADER 17   /* a header size below 0x18, where payloads stand after their headers */
@@ -196,7 +197,7 @@ static inline const char *usm_reason(uint8_t number)
     case USM_SHORT_OUTPUT:
         return "the video or the audio output is too short";
     case USM_SHORT_LIST:
-        return "the chunk list is too short";
+        return "the list is too short";
     case USM_MARKED_PAYLOAD:
         return "a payload begins with the end marker";
     case USM_SHORT_ROOM:
