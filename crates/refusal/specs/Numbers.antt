@@ -2,7 +2,7 @@
 use Prim.Native.Nat.{ℕ}
 use Rattle.refusal.specs.declared.Beside.{Beside}
 use Rattle.refusal.specs.declared.Cause.{Cause}
-use Rattle.refusal.specs.declared.Cause.the-variants.{RanOut, NoFilm, NoTable, NoVideo, NoAudio, NoHeaderEnd, NoMetadataEnd, UnknownType, TooSmall, TooMany, TooLong, ShortOutput, ShortList, MarkedPayload, ShortRoom, ShortHeader, UnknownStorage, NoBeginning, BadTenants, CodecAlone}
+use Rattle.refusal.specs.declared.Cause.the-variants.{RanOut, NoFilm, NoTable, NoVideo, NoAudio, NoHeaderEnd, NoMetadataEnd, UnknownType, TooSmall, TooMany, TooLong, ShortOutput, ShortList, MarkedPayload, ShortRoom, ShortHeader, UnknownStorage, Foreign, ManyAudios, NoBeginning, BadTenants, CodecAlone}
 
 abbrev pub numberOf : Cause → ℕ
 numberOf RanOut = 1
@@ -22,6 +22,8 @@ numberOf MarkedPayload = 15
 numberOf (ShortRoom size) = 16
 numberOf ShortHeader = 17
 numberOf UnknownStorage = 18
+numberOf Foreign = 19
+numberOf ManyAudios = 20
 numberOf NoBeginning = 21
 numberOf BadTenants = 22
 numberOf CodecAlone = 23
@@ -48,6 +50,8 @@ besideOf MarkedPayload = nothingBeside
 besideOf (ShortRoom size) = record { «video_size» = 0; «audio_size» = 0; count = 0; «unknown_type» = 0; size = size }
 besideOf ShortHeader = nothingBeside
 besideOf UnknownStorage = nothingBeside
+besideOf Foreign = nothingBeside
+besideOf ManyAudios = nothingBeside
 besideOf NoBeginning = nothingBeside
 besideOf BadTenants = nothingBeside
 besideOf CodecAlone = nothingBeside

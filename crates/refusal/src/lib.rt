@@ -2,7 +2,7 @@
 ghost use mathlib.Core.Path.{_≡_};
 ghost use Rattle.refusal.specs.Numbers.{numberOf, besideOf};
 
-// Why. The cases stand in the order of their numbers: 1 to 13, 15 to 18 and 21 to 23. 14 is struck: it cannot occur, and no
+// Why. The cases stand in the order of their numbers: 1 to 13 and 15 to 23. 14 is struck: it cannot occur, and no
 // other cause has it.
 pub enum Cause {
     // Bytes run out.
@@ -39,6 +39,10 @@ pub enum Cause {
     ShortHeader,
     // A column whose values stand nowhere that is known.
     UnknownStorage,
+    // A film that the old builder, or the move from it, does not write.
+    Foreign,
+    // A film of the old builder with more than one audio.
+    ManyAudios,
     // No beginning of the container is accepted.
     NoBeginning,
     // No tenant, over 16 of them, or a number twice.
@@ -75,6 +79,8 @@ pub fn number_of(cause: Cause) -> u8
         Cause::ShortRoom(_) => 16,
         Cause::ShortHeader => 17,
         Cause::UnknownStorage => 18,
+        Cause::Foreign => 19,
+        Cause::ManyAudios => 20,
         Cause::NoBeginning => 21,
         Cause::BadTenants => 22,
         Cause::CodecAlone => 23,
@@ -144,6 +150,8 @@ pub fn beside_of(cause: Cause) -> Beside
         },
         Cause::ShortHeader => nothing,
         Cause::UnknownStorage => nothing,
+        Cause::Foreign => nothing,
+        Cause::ManyAudios => nothing,
         Cause::NoBeginning => nothing,
         Cause::BadTenants => nothing,
         Cause::CodecAlone => nothing,
