@@ -1,0 +1,7 @@
+pub mod FrontLaws
+pub mod ChunkLaws
+pub mod TurnLaws
+pub mod ReadLaws
+pub mod SizeLaws
+pub mod PayloadLaws
+pub mod OneAnswer
