@@ -1,0 +1,414 @@
+// The container of the old builder: the bytes of its blocks, and whether a container is one that it wrote, for one video and at most one audio.
+// Recognising is rebuilding: the parts are read where the builder puts them, and what it writes from them is compared with the container. Rules O.
+// From the Rust: `builder.rs`.
+ghost use mathlib.Core.Path.{_≡_};
+ghost use mathlib.Core.Bool.{_&&_};
+ghost use mathlib.Core.List.{[], _++_};
+ghost use Prim.Native.Nat.{_+_, _-_, _≤_, _<_, _^_};
+ghost use lib.Dec.{eqb};
+ghost use lib.ListN.{length, drop};
+ghost use Rattle.part.specs.Parts.{IsPart};
+ghost use Rattle.signature.specs.Signatures.{CRID, SFV, SFA, standsAt};
+ghost use Rattle.film_blocks.specs.Blocks.{zeros, padding};
+ghost use Rattle.old_film.specs.Blocks.{oldHead, tableBlock};
+ghost use Rattle.old_film.specs.Tables.{nameStart, oldVideo, oldAudio};
+ghost use Rattle.old_film.specs.Films.{oldEnds};
+ghost use Rattle.old_film.specs.Finding.{nameSize, audioSize, audiosOf, foundIn};
+use film_turns::Form;
+use film_turns::Turns;
+
+// A film of the builder: the length of its name, whether there is audio, where its chunks start, and what they hold.
+pub struct OldFilm {
+    pub name: usize,
+    pub audio: bool,
+    pub start: usize,
+    pub turns: Turns,
+}
+
+// What a container is: a film of the builder, or none.
+pub enum Found {
+    Film(OldFilm),
+    Foreign,
+}
+
+// Where a name stands.
+const NAME: usize = 96;
+
+// What the first block's size is more than its name.
+const MORE: usize = 89;
+
+// The size of the video's block.
+const VIDEO: usize = 0x80;
+
+// The first block up to a name of `len` bytes.
+pub fn name_head(len: u32) -> [u8; 96]
+    ensures { λ r. ⌜ r ≡ oldHead CRID (89 + len) 0 0 ++ nameStart len ⌝ }
+{
+    let size = 89 + len as usize;
+    let table = 61 + len as usize;
+    let blobs = 57 + len as usize;
+    [
+        0x43,
+        0x52,
+        0x49,
+        0x44,
+        (size / 0x1000000 % 256) as u8,
+        (size / 0x10000 % 256) as u8,
+        (size / 0x100 % 256) as u8,
+        (size % 256) as u8,
+        0,
+        1,
+        0,
+        0x18,
+        0,
+        0,
+        0,
+        0,
+        0,
+        0,
+        0,
+        0,
+        0,
+        0,
+        0,
+        0,
+        0,
+        0,
+        0,
+        0,
+        0x40,
+        0x55,
+        0x54,
+        0x46,
+        (table / 0x1000000 % 256) as u8,
+        (table / 0x10000 % 256) as u8,
+        (table / 0x100 % 256) as u8,
+        (table % 256) as u8,
+        0,
+        1,
+        0,
+        0x19,
+        0,
+        0,
+        0,
+        0x1d,
+        (blobs / 0x1000000 % 256) as u8,
+        (blobs / 0x10000 % 256) as u8,
+        (blobs / 0x100 % 256) as u8,
+        (blobs % 256) as u8,
+        0,
+        0,
+        0,
+        0,
+        0,
+        1,
+        0,
+        4,
+        0,
+        0,
+        0,
+        1,
+        0x5A,
+        0,
+        0,
+        0,
+        0x12,
+        0,
+        0,
+        0,
+        0x1b,
+        0x43,
+        0x52,
+        0x49,
+        0x55,
+        0x53,
+        0x46,
+        0x5f,
+        0x44,
+        0x49,
+        0x52,
+        0x5f,
+        0x53,
+        0x54,
+        0x52,
+        0x45,
+        0x41,
+        0x4d,
+        0,
+        0x66,
+        0x69,
+        0x6c,
+        0x65,
+        0x6e,
+        0x61,
+        0x6d,
+        0x65,
+        0,
+    ]
+}
+
+// The block of a video of `len` bytes.
+pub fn video_block(len: usize) -> [u8; 128]
+    ensures { λ r. ⌜ r ≡ tableBlock SFV (oldVideo len) ⌝ }
+{
+    let frames = len / 1000;
+    [
+        0x40,
+        0x53,
+        0x46,
+        0x56,
+        0,
+        0,
+        0,
+        0x77,
+        0,
+        1,
+        0,
+        0x18,
+        0,
+        0,
+        0,
+        0,
+        0,
+        0,
+        0,
+        0,
+        0,
+        0,
+        0,
+        0,
+        0,
+        0,
+        0,
+        0,
+        0x40,
+        0x55,
+        0x54,
+        0x46,
+        0,
+        0,
+        0,
+        0x5b,
+        0,
+        1,
+        0,
+        0x1f,
+        0,
+        0,
+        0,
+        0x2b,
+        0,
+        0,
+        0,
+        0x53,
+        0,
+        0,
+        0,
+        0,
+        0,
+        3,
+        0,
+        0xc,
+        0,
+        0,
+        0,
+        1,
+        0x54,
+        0,
+        0,
+        0,
+        0xe,
+        0x54,
+        0,
+        0,
+        0,
+        0x14,
+        0x54,
+        0,
+        0,
+        0,
+        0x1b,
+        0,
+        0,
+        7,
+        0x80,
+        0,
+        0,
+        4,
+        0x38,
+        (frames / 0x1000000 % 256) as u8,
+        (frames / 0x10000 % 256) as u8,
+        (frames / 0x100 % 256) as u8,
+        (frames % 256) as u8,
+        0x56,
+        0x49,
+        0x44,
+        0x45,
+        0x4f,
+        0x5f,
+        0x48,
+        0x44,
+        0x52,
+        0x49,
+        0x4e,
+        0x46,
+        0x4f,
+        0,
+        0x77,
+        0x69,
+        0x64,
+        0x74,
+        0x68,
+        0,
+        0x68,
+        0x65,
+        0x69,
+        0x67,
+        0x68,
+        0x74,
+        0,
+        0x74,
+        0x6f,
+        0x74,
+        0x61,
+        0x6c,
+        0x5f,
+        0x66,
+        0x72,
+        0x61,
+        0x6d,
+        0x65,
+        0x73,
+        0,
+        0,
+    ]
+}
+
+// Whether the audio's block stands at a place.
+fn audio_stands(container: &[u8], place: usize) -> bool
+    ensures { λ r. ⌜ r ≡ standsAt (tableBlock SFA (oldAudio 0)) (now (container .entry)) place ⌝ }
+{
+    signature::stands_at(
+        b"@SFA\0\0\0U\0\x01\0\x18\0\0\0\0\0\0\0\0\0\0\0\0\0\0\0\0@UTF\0\0\09\0\x01\0\x10\0\0\0\x14\0\0\00\0\0\0\0\0\x01\0\x04\0\0\0\x01T\0\0\0\x0e\0\0\0\0AUDIO_HDRINFO\0stream_id\0\0\0\0",
+        container,
+        place,
+    )
+}
+
+// The size of the first block, with a name of `len` bytes.
+fn name_size(len: usize) -> usize
+    requires { ⌜ len < 2 ^ 32 ⌝ }
+    ensures { λ r. ⌜ r ≡ nameSize len ⌝ }
+{
+    97 + len + film_blocks::padding(97 + len)
+}
+
+// The size of the audio's block, if there is one.
+fn audio_size(audio: bool) -> usize
+    ensures { λ r. ⌜ r ≡ audioSize audio ⌝ }
+{
+    if audio {
+        return 0x60;
+    }
+    0
+}
+
+// The bytes of a slice from a place on.
+fn tail(bytes: &[u8], place: usize) -> &[u8]
+    ensures { λ r. ⌜ now r ≡ drop place (now (bytes .entry)) ⌝ }
+{
+    if bytes.len() <= place {
+        return &bytes[0..0];
+    }
+    &bytes[place..]
+}
+
+// Whether the first block stands at the front, around a name of `len` bytes.
+fn name_stands(container: &[u8], len: usize) -> bool
+    requires { ⌜ len < 2 ^ 32 ⌝ }
+    ensures { λ r. ⌜ r ≡ (standsAt (oldHead CRID (89 + len) 0 0 ++ nameStart len) (now (container .entry)) 0 && standsAt (zeros (1 + padding (97 + len))) (now (container .entry)) (96 + len)) ⌝ }
+{
+    let head = name_head(len as u32);
+    if signature::stands_at(&head, container, 0) {
+        let none = [0u8; 33];
+        let count = 1 + film_blocks::padding(97 + len);
+        return signature::stands_at(&none[..count], container, NAME + len);
+    }
+    false
+}
+
+// Whether a container closes at a place with these bytes.
+fn closes(container: &[u8], place: usize, ends: &[u8]) -> bool
+    ensures { λ r. ⌜ r ≡ (standsAt (now (ends .entry)) (now (container .entry)) place && eqb (length (now (container .entry)) - place) (length (now (ends .entry)))) ⌝ }
+{
+    if signature::stands_at(ends, container, place) {
+        return word::left_from(container, place) == ends.len();
+    }
+    false
+}
+
+// Whether it closes with the ends of its streams.
+fn ends_stand(container: &[u8], place: usize, audio: bool) -> bool
+    ensures { λ r. ⌜ r ≡ (standsAt (oldEnds (audiosOf audio [])) (now (container .entry)) place && eqb (length (now (container .entry)) - place) (length (oldEnds (audiosOf audio [])))) ⌝ }
+{
+    if audio {
+        return closes(
+            container,
+            place,
+            b"@END\0\0\0\x18\0\x01\0\x18\0\0\0\0\0\0\0\0\0\0\0\0\0\0\0\0@END\0\0\0\x18\0\x01\0\x18\0\0\0\0\0\0\0\0\0\0\0\0\0\0\0\0",
+        );
+    }
+    closes(
+        container,
+        place,
+        b"@END\0\0\0\x18\0\x01\0\x18\0\0\0\0\0\0\0\0\0\0\0\0\0\0\0\0",
+    )
+}
+
+// Whether all that the builder writes around the chunks stands where it writes it.
+fn is_rebuilt(
+    container: &[u8],
+    name: usize,
+    first: usize,
+    video: usize,
+    end: usize,
+    audio: bool,
+) -> bool
+    requires { ⌜ name < 2 ^ 32 ⌝ }
+    ensures { λ r. ⌜ r ≡ (standsAt (oldHead CRID (89 + name) 0 0 ++ nameStart name) (now (container .entry)) 0 && standsAt (zeros (1 + padding (97 + name))) (now (container .entry)) (96 + name) && standsAt (tableBlock SFV (oldVideo video)) (now (container .entry)) first && (standsAt (oldEnds (audiosOf audio [])) (now (container .entry)) end && eqb (length (now (container .entry)) - end) (length (oldEnds (audiosOf audio []))))) ⌝ }
+{
+    if name_stands(container, name) {
+        let block = video_block(video);
+        if signature::stands_at(&block, container, first) {
+            return ends_stand(container, end, audio);
+        }
+        return false;
+    }
+    false
+}
+
+// What a container is.
+pub fn find(container: &[u8]) -> Found
+    ensures { λ r. ⌜ r ≡ foundIn (now (container .entry)) ⌝ }
+{
+    let size = word::read32(container, 4);
+    let name = part::part_at(container, NAME, film_turns::less(size, MORE));
+    let len = name.len();
+    let first = name_size(len);
+    let audio = audio_stands(container, first + VIDEO);
+    let start = first + VIDEO + audio_size(audio);
+    let turns = film_turns::read_turns(tail(container, start), Form::Old, audio);
+    if utf8::is_utf8(name) {
+        let end = start + turns.end;
+        if is_rebuilt(container, len, first, turns.video, end, audio) {
+            return Found::Film(OldFilm {
+                name: len,
+                audio,
+                start,
+                turns,
+            });
+        }
+        return Found::Foreign;
+    }
+    Found::Foreign
+}
