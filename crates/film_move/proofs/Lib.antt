@@ -1,0 +1,4 @@
+pub mod PutLaws
+pub mod NewLaws
+pub mod MarkLaws
+pub mod OneAnswer
