@@ -1,4 +1,5 @@
 pub mod PutLaws
 pub mod NewLaws
 pub mod MarkLaws
+pub mod FromLaws
 pub mod OneAnswer

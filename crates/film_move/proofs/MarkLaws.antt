@@ -17,7 +17,7 @@ use Rattle.film_turns.specs.Chunks.{chunkSize}
 use Rattle.film_turns.specs.Turns.{Read, goesOn, seenIn, heardIn, turnSize, readFrom}
 use Rattle.film_turns.proofs.ReadLaws.{held, Joins, first-part, later-part, joins, joins-audio, read-none, by-cases}
 
-none-marked : anyMarked (payloadsOf []) ≡ false
+pub none-marked : anyMarked (payloadsOf []) ≡ false
 unfolding anyMarked
 none-marked = rw payloads-none
 

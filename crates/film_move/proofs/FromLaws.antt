@@ -1,0 +1,300 @@
+-- A film of the builder as request 1's: all but its chunks, and these between its header and its ends. Assumes nothing.
+use Prim.Native.Nat.{ℕ, _+_, _-_, _*_, _%_, _≤_, _<_}
+use mathlib.Core.Path.{_≡_, refl, sym, ap, ap₂, _∙_, subst}
+use mathlib.Core.List.{List, [], _++_, append-assoc}
+use mathlib.Core.Bool.{Bool, true, false, not, cond, _||_, _&&_}
+use mathlib.Core.Logic.{⊎-elim}
+use native.Mathlib.Omega.{arith}
+use lib.ListN.{length, take, drop, length-append, length-drop, drop-of-length-le}
+use lib.Seq.{sets, sets-eq, length-sets, length-take-le, take-all, take-at, drop-at, drop-drop}
+use lib.Dec.{ltb}
+use borrow.Author.Tests.{lt-ltb, le-ltb, ltb-true, le-leb, lt-leb}
+use Rattle.laws.specs.Outputs.{Put}
+use Rattle.laws.proofs.Side.{side}
+use Rattle.laws.proofs.SetsLaws.{sets-append}
+use Rattle.laws.proofs.PutLaws.{put-then}
+use Rattle.part.specs.Parts.{partAt}
+use Rattle.signature.specs.Signatures.{contentsEnd}
+use Rattle.refusal.specs.declared.Cause.the-variants.{TooLong, MarkedPayload, CodecAlone}
+use Rattle.refusal.specs.declared.Cause.the-variants as cause
+use Rattle.refusal.specs.declared.Refusal.{Refusal}
+use Rattle.codec.specs.declared.Codec.{Codec}
+use Rattle.unmasking.specs.declared.Key.the-variants.{Absent}
+use Rattle.unmasking.specs.declared.Unmasking.{Unmasking}
+use Rattle.unmasking.specs.Unmasking.{unmaskingOf}
+use Rattle.written.specs.declared.Written.{Written}
+use Rattle.written.specs.declared.Written.the-variants.{Size, Refused}
+use Rattle.written.specs.Written.{writtenIn, leftBy}
+use Rattle.film_blocks.specs.Blocks.{headOf, blockOf}
+use Rattle.film_blocks.specs.Tables.{markerOf}
+use Rattle.film_plan.specs.declared.Packing.{Packing}
+use Rattle.film_plan.specs.Payloads.{payloadsOf}
+use Rattle.film_plan.specs.Films.{bytesOf, inEach, headerBlocks, endBlocks, filmBytes}
+use Rattle.film_plan.specs.Planning.{anyMarked, isGiven, refusedBy, plannedOf}
+use Rattle.film_plan.proofs.PlanLaws.{accepted}
+use Rattle.write.specs.Writing.{WritingOf, Writing}
+use Rattle.film_turns.specs.declared.Form.{Form}
+use Rattle.film_turns.specs.declared.Form.the-variants.{Old, New}
+use Rattle.film_turns.specs.Turns.{chunksOf, streamSize, Read, readIn}
+use Rattle.film_turns.proofs.ReadLaws.{turns-none}
+use Rattle.film_turns.proofs.SizeLaws.{size-few, chunks-length, read-fits}
+use Rattle.film_turns.proofs.PayloadLaws.{part-none}
+use Rattle.word.specs.Numbers.{be32}
+use Rattle.old_film.specs.declared.OldFilm.{OldFilm}
+use Rattle.old_film.specs.declared.Found.the-variants.{Film, Foreign}
+use Rattle.old_film.specs.Finding.{Parts, partsOf, isOld, filmBy, foundIn}
+use Rattle.film_move.specs.Moving.{movedFrom}
+use Rattle.film_move.specs.FromOld.{plannedAs, packingOf, fromOld, FromOld}
+use Rattle.film_move.proofs.NewLaws.{chunks-new}
+use Rattle.film_move.proofs.MarkLaws.{none-marked, read-marked}
+
+-- ---- stores over stores that are no longer
+
+sets-over : (out some others : List ℕ) (at : ℕ) → length some ≤ length others → at + length others ≤ length out → sets (sets out at some) at others ≡ sets out at others
+sets-over out some others at few room =
+    let more = length others - length some in
+    let s : at + length some ≤ length out = omega arith in
+    let c : length (take at out) ≡ at = length-take-le at out (omega arith) in
+    let l : length (sets out at some) ≡ length out = length-sets out at some in
+    let f : length (take at out ++ some) ≡ at + length some = length-append (take at out) some ∙ ap (λ (m : ℕ). m + length some) c in
+    let t : take at (sets out at some) ≡ take at out =
+    ap (take at) (sets-eq some out at s ∙ append-assoc (take at out) some (drop (at + length some) out)) ∙ take-at (take at out) (some ++ drop (at + length some) out) at c in
+    let d : drop (at + length some) (sets out at some) ≡ drop (at + length some) out =
+    ap (drop (at + length some)) (sets-eq some out at s) ∙ drop-at (take at out ++ some) (drop (at + length some) out) (at + length some) f in
+    let n : at + length some + more ≡ at + length others = omega arith in
+    let e : drop (at + length others) (sets out at some) ≡ drop (at + length others) out =
+    ap (λ (m : ℕ). drop m (sets out at some)) (sym n) ∙ sym (drop-drop more (at + length some) (sets out at some)) ∙ ap (drop more) d
+    ∙ drop-drop more (at + length some) out ∙ ap (λ (m : ℕ). drop m out) n in
+    sets-eq others (sets out at some) at (omega (arith, l)) ∙ ap₂ (λ (x y : List ℕ). x ++ others ++ y) t e ∙ sym (sets-eq others out at room)
+
+-- what is put between a front and an end, with the end again after it
+pub sets-between : (out front end inside : List ℕ) → length (front ++ (inside ++ end)) ≤ length out
+    → sets (sets out 0 (front ++ end)) (length front) (inside ++ end) ≡ sets out 0 (front ++ (inside ++ end))
+sets-between out front end inside room =
+    let n : 0 + length front ≡ length front = omega arith in
+    let l = length-sets out 0 front in
+    let w = length-append front (inside ++ end) in
+    let i = length-append inside end in
+    ap (λ (o : List ℕ). sets o (length front) (inside ++ end)) (sets-append out front end 0 ∙ ap (λ (m : ℕ). sets (sets out 0 front) m end) n)
+    ∙ sets-over (sets out 0 front) end (inside ++ end) (length front) (omega (arith, i)) (omega (arith, l, w))
+    ∙ ap (λ (m : ℕ). sets (sets out 0 front) m (inside ++ end)) (sym n) ∙ sym (sets-append out front (inside ++ end) 0)
+
+-- ---- sizes
+
+pub stream-few : (form : Form) (n : ℕ) → streamSize form n ≤ 2 * n + 63
+unfolding streamSize
+stream-few form n = let l = size-few form (n % 0x10000) (omega arith) in omega (arith, l)
+
+pub ends-length : (audio : Bool) → length (bytesOf (inEach audio (λ stream. markerOf contentsEnd))) ≡ cond audio 0x80 0x40
+unfolding bytesOf blockOf headOf
+ends-length true = refl
+ends-length false = refl
+
+none-either : (t : Bool) → cond {A = List ℕ} t [] [] ≡ []
+none-either true = refl
+none-either false = refl
+
+-- ---- the film that is written
+
+module _ (name : List ℕ) (packing : Packing) (k : packing .key ≡ Absent) where
+  abbrev pub header : List ℕ
+  header = bytesOf (headerBlocks name packing)
+
+  abbrev pub ends : List ℕ
+  ends = bytesOf (endBlocks packing)
+
+  abbrev by : Unmasking
+  by = unmaskingOf (packing .key) (packing .«audio_codec»)
+
+  no-video : by .video ≡ false
+  no-video = rw k
+
+  no-sound : by .audio ≡ false
+  no-sound = rw k
+
+  pub film-laid : (video audio : List ℕ) → filmBytes name video audio packing ≡ header ++ (chunksOf New video audio ++ ends)
+  unfolding filmBytes
+  film-laid video audio = ap (λ (l : List ℕ). header ++ (l ++ ends)) (chunks-new by no-video no-sound video audio)
+
+  pub frame-laid : filmBytes name [] [] packing ≡ header ++ ends
+  frame-laid = film-laid [] [] ∙ ap (λ (l : List ℕ). header ++ (l ++ ends)) (turns-none New 0 0)
+
+  -- its header, by the size of what is written without a payload
+  pub header-size : length (filmBytes name [] [] packing) ≡ length header + length ends
+  header-size = ap length frame-laid ∙ length-append header ends
+
+  module _ (video audio : List ℕ) where
+    abbrev whole : ℕ
+    whole = length (filmBytes name video audio packing)
+
+    abbrev frame : ℕ
+    frame = length (filmBytes name [] [] packing)
+
+    abbrev sizes : ℕ
+    sizes = streamSize New (length video) + streamSize New (length audio)
+
+    whole-size : whole ≡ frame + sizes
+    whole-size =
+        ap length (film-laid video audio) ∙ length-append header (chunksOf New video audio ++ ends)
+        ∙ omega (arith, length-append (chunksOf New video audio) ends, chunks-length New video audio, header-size)
+
+    -- ---- what is planned
+
+    abbrev alone : Bool
+    alone = not (packing .audio) && isGiven (packing .«audio_codec»)
+
+    abbrev marked : Bool
+    marked = anyMarked (payloadsOf video) || anyMarked (payloadsOf audio)
+
+    pub plan-sized : (n : ℕ) (t : Bool) → plannedOf name [] [] packing ≡ Size n → t ≡ marked → plannedAs (n + sizes) t ≡ plannedOf name video audio packing
+    unfolding plannedOf
+    plan-sized n t e m =
+        let a = accepted name [] [] packing n e in
+        let s : n + sizes ≡ whole = omega (arith, a .sized, whole-size) in
+        rw (a .given) (ap₂ plannedAs s m)
+
+    first-refused : (t u w x : Bool) (n : ℕ) (rest : Written) (refusal : Refusal) → (u ≡ true → x ≡ true) → w ≡ false
+        → cond t (refusedBy CodecAlone) (cond u (refusedBy TooLong) (cond w (refusedBy MarkedPayload) (Size n))) ≡ Refused refusal
+        → Refused refusal ≡ cond t (refusedBy CodecAlone) (cond x (refusedBy TooLong) rest)
+    first-refused true u w x n rest refusal h k e = sym e
+    first-refused false true w x n rest refusal h k e = rw (h refl) (sym e)
+    first-refused false false true x n rest refusal h k e = let z : _≡_ {A = ℕ} 0 1 = cc in absurd (omega arith)
+    first-refused false false false x n rest refusal h k e = let z : _≡_ {A = ℕ} 0 1 = cc in absurd (omega arith)
+
+    pub plan-refused : (refusal : Refusal) → plannedOf name [] [] packing ≡ Refused refusal → Refused refusal ≡ plannedOf name video audio packing
+    unfolding plannedOf
+    plan-refused refusal e =
+        first-refused alone (ltb 0x40000000 frame) (anyMarked (payloadsOf []) || anyMarked (payloadsOf [])) (ltb 0x40000000 whole) frame
+        (cond marked (refusedBy MarkedPayload) (Size whole)) refusal
+        (λ h. lt-ltb 0x40000000 whole (omega (arith, ltb-true 0x40000000 frame h, whole-size)))
+        (rw none-marked) e
+
+    -- ---- what is put
+
+    module _ (out out₁ : List ℕ) (room : whole ≤ length out) where
+      pub frame-put : (n : ℕ) (r : Written) → plannedOf name [] [] packing ≡ Size n → Writing name [] [] packing out r out₁ → out₁ ≡ sets out 0 (header ++ ends)
+      frame-put n r e w =
+          let a = accepted name [] [] packing n e in
+          let fits : n ≤ length out = omega (arith, a .sized, whole-size) in
+          let w′ : WritingOf name [] [] packing out r out₁ = rw (none-either (packing .audio)) at w in
+          let same : r ≡ Size n = w′ .0 ∙ ap (writtenIn (length out)) e ∙ rw (le-ltb (length out) n fits) in
+          w′ .1 ∙ ap (λ (t : Written). leftBy t out (filmBytes name [] [] packing)) same ∙ ap (sets out 0) frame-laid
+
+      module _ (framed : out₁ ≡ sets out 0 (header ++ ends)) (start : ℕ) (s : start ≡ length header) (moved : List ℕ) (m : moved ≡ chunksOf New video audio) where
+        laid-length : whole ≡ length header + (length moved + length ends)
+        laid-length =
+            ap length (film-laid video audio) ∙ length-append header (chunksOf New video audio ++ ends)
+            ∙ omega (arith, length-append (chunksOf New video audio) ends, ap length m)
+
+        pub moved-fits : start + length moved ≤ length out₁
+        moved-fits = omega (arith, ap length framed, length-sets out 0 (header ++ ends), laid-length, s)
+
+        module _ {out₂ : List ℕ} {at : ℕ} (turned : Put moved out₁ start out₂ at) where
+          pub ends-fit : at + length ends ≤ length out₂
+          ends-fit = omega (arith, ap length framed, length-sets out 0 (header ++ ends), laid-length, s, turned .ends, ap length (turned .holds), length-sets out₁ start moved)
+
+          pub film-moved : {out₃ : List ℕ} {end : ℕ} → Put ends out₂ at out₃ end → out₃ ≡ sets out 0 (filmBytes name video audio packing)
+          film-moved ended =
+              put-then turned ended .holds ∙ ap₂ (λ (o : List ℕ) (n : ℕ). sets o n (moved ++ ends)) framed s
+              ∙ ap (λ (l : List ℕ). sets (sets out 0 (header ++ ends)) (length header) (l ++ ends)) m
+              ∙ sets-between out header ends (chunksOf New video audio) (rw (film-laid video audio) at room) ∙ ap (sets out 0) (sym (film-laid video audio))
+
+-- ---- the parts of a film that was found
+
+film-told : (t : Bool) (film other : OldFilm) → cond t (Film other) Foreign ≡ Film film → (t ≡ true) × (film ≡ other)
+film-told true film other e = (refl, cc)
+film-told false film other e = let z : _≡_ {A = ℕ} 0 1 = cc in absurd (omega arith)
+
+none-told : (t : Bool) (other : OldFilm) → cond t (Film other) Foreign ≡ Foreign → t ≡ false
+none-told true other e = let z : _≡_ {A = ℕ} 0 1 = cc in absurd (omega arith)
+none-told false other e = refl
+
+module _ (c : List ℕ) where
+  pub is-film : (film : OldFilm) → foundIn c ≡ Film film → (isOld c ≡ true) × (film ≡ filmBy (partsOf c))
+  unfolding foundIn
+  is-film film e = film-told (isOld c) film (filmBy (partsOf c)) e
+
+  pub is-foreign : foundIn c ≡ Foreign → isOld c ≡ false
+  unfolding foundIn
+  is-foreign e = none-told (isOld c) (filmBy (partsOf c)) e
+
+  abbrev P : Parts
+  P = partsOf c
+
+  read-is : P .read ≡ readIn Old (P .audio) (drop (P .start) c)
+  unfolding partsOf
+  read-is = refl
+
+  part-again : (place n : ℕ) → partAt c place (length (partAt c place n)) ≡ partAt c place n
+  part-again place n =
+      ⊎-elim
+      (λ (h : length c < place + n).
+      let z : partAt c place n ≡ [] = rw (lt-leb (place + n) (length c) h) in
+      ap (λ (l : List ℕ). partAt c place (length l)) z ∙ part-none c place ∙ sym z)
+      (λ (h : place + n ≤ length c).
+      let l : length (partAt c place n) ≡ n = rw (le-leb (place + n) (length c) h) (length-take-le n (drop place c) (rw length-drop (omega arith))) in
+      ap (partAt c place) l) (side (length c) (place + n))
+
+  name-is : partAt c 96 (length (P .name)) ≡ P .name
+  unfolding partsOf
+  name-is = part-again 96 (be32 c 4 - 89)
+
+  -- what stands from a place on, as a part
+  pub rest-part : (place : ℕ) → partAt c place (length c - place) ≡ drop place c
+  rest-part place =
+      ⊎-elim
+      (λ (h : length c < place).
+      let over : length c ≤ place = omega arith in
+      rw (lt-leb (place + (length c - place)) (length c) (omega arith)) (sym (drop-of-length-le c over)))
+      (λ (h : place ≤ length c).
+      rw (le-leb (place + (length c - place)) (length c) (omega arith)) (take-all (length c - place) (drop place c) (rw length-drop (omega arith)))) (side (length c) place)
+
+  module _ (film : OldFilm) (e : film ≡ filmBy P) where
+    pub name-part : partAt c 96 (film .name) ≡ P .name
+    name-part = ap (λ (f : OldFilm). partAt c 96 (f .name)) e ∙ name-is
+
+    pub moved-is : (chunks : List ℕ) → chunks ≡ partAt c (film .start) (length c - film .start) → movedFrom Old New (film .audio) chunks ≡ chunksOf New (P .read .video) (P .read .audio)
+    unfolding movedFrom
+    moved-is chunks h =
+        ap₂ (λ (f : OldFilm) (l : List ℕ). chunksOf New (readIn Old (f .audio) l .video) (readIn Old (f .audio) l .audio)) e
+        (h ∙ rest-part (film .start) ∙ ap (λ (f : OldFilm). drop (f .start) c) e)
+        ∙ ap (λ (r : Read). chunksOf New (r .video) (r .audio)) (sym read-is)
+
+    pub video-is : film .turns .video ≡ length (P .read .video)
+    video-is = ap (λ (f : OldFilm). f .turns .video) e
+
+    pub audio-is : film .turns .audio ≡ length (P .read .audio)
+    audio-is = ap (λ (f : OldFilm). f .turns .audio) e
+
+    pub marked-is : film .turns .marked ≡ (anyMarked (payloadsOf (P .read .video)) || anyMarked (payloadsOf (P .read .audio)))
+    marked-is =
+        ap (λ (f : OldFilm). f .turns .marked) e ∙ ap (λ (r : Read). r .marked) read-is ∙ read-marked Old (length (drop (P .start) c) + 1) 0 true (P .audio) (drop (P .start) c)
+        ∙ ap (λ (r : Read). anyMarked (payloadsOf (r .video)) || anyMarked (payloadsOf (r .audio))) (sym read-is)
+
+    pub turns-few : length c ≤ 0x40000000 → (film .turns .video ≤ 0x40000000) × (film .turns .audio ≤ 0x40000000)
+    turns-few h =
+        let f : length (P .read .video) + length (P .read .audio) ≤ length (drop (P .start) c) =
+        subst (λ (r : Read). length (r .video) + length (r .audio) ≤ length (drop (P .start) c)) (sym read-is) (read-fits Old (P .audio) (drop (P .start) c)) in
+        let l = length-drop (P .start) c in
+        (omega (arith, f, l, h, video-is), omega (arith, f, l, h, audio-is))
+
+  -- ---- what is answered
+
+  module _ (mpeg-codec audio-codec : Codec) (out : List ℕ) (r : Written) where
+    pub from-long : 0x40000000 < length c → r ≡ refusedBy TooLong → FromOld c mpeg-codec audio-codec out r out
+    unfolding fromOld
+    from-long h e = rw (e, lt-ltb 0x40000000 (length c) h) (refl, refl)
+
+    pub from-foreign : length c ≤ 0x40000000 → foundIn c ≡ Foreign → r ≡ refusedBy cause.Foreign → FromOld c mpeg-codec audio-codec out r out
+    unfolding fromOld
+    from-foreign h f e = rw (e, le-ltb 0x40000000 (length c) h, is-foreign f) (refl, refl)
+
+    pub from-film : (film : OldFilm) (packing : Packing) (out′ : List ℕ) → length c ≤ 0x40000000 → foundIn c ≡ Film film → packing ≡ packingOf (film .audio) mpeg-codec audio-codec
+        → WritingOf (P .name) (P .read .video) (P .read .audio) packing out r out′ → FromOld c mpeg-codec audio-codec out r out′
+    unfolding fromOld
+    from-film film packing out′ h f e w =
+        let t = is-film film f in
+        let p : packing ≡ packingOf (P .audio) mpeg-codec audio-codec = e ∙ ap (λ (o : OldFilm). packingOf (o .audio) mpeg-codec audio-codec) (t .1) in
+        let w′ : WritingOf (P .name) (P .read .video) (P .read .audio) (packingOf (P .audio) mpeg-codec audio-codec) out r out′ =
+        subst (λ (q : Packing). WritingOf (P .name) (P .read .video) (P .read .audio) q out r out′) p w in
+        rw (le-ltb 0x40000000 (length c) h, t .0) w′
