@@ -2,4 +2,5 @@ pub mod PutLaws
 pub mod NewLaws
 pub mod MarkLaws
 pub mod FromLaws
+pub mod EndLaws
 pub mod OneAnswer

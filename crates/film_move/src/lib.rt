@@ -4,12 +4,28 @@ ghost use mathlib.Core.Bool.{_||_};
 ghost use Prim.Native.Nat.{_+_, _≤_};
 ghost use lib.ListN.{length};
 ghost use Rattle.laws.specs.Outputs.{Put};
+ghost use Rattle.signature.specs.Signatures.{contentsEnd};
 ghost use Rattle.film_blocks.specs.Blocks.{zeros};
+ghost use Rattle.film_blocks.specs.Tables.{markerOf};
+ghost use Rattle.film_plan.specs.Films.{bytesOf, inEach};
+ghost use Rattle.film_plan.specs.Planning.{refusedBy};
 ghost use Rattle.film_turns.specs.Chunks.{chunkOf};
-ghost use Rattle.film_turns.specs.Turns.{nextOf};
+ghost use Rattle.film_turns.specs.declared.Form.the-variants as form;
+ghost use Rattle.film_turns.specs.Turns.{nextOf, streamSize};
 ghost use Rattle.film_move.specs.Moving.{movedFrom};
+ghost use Rattle.film_move.specs.FromOld.{plannedAs, packingOf};
+use codec::Codec;
+use film_plan::Packing;
 use film_plan::Stream;
 use film_turns::Form;
+use film_turns::Turns;
+use refusal::Cause;
+use refusal::Refusal;
+use unmasking::Key;
+use written::Written;
+
+// The longest container.
+const LONGEST: usize = 0x40000000;
 
 // ---- bytes into the output, from a place on; each answers where they end
 
@@ -113,4 +129,78 @@ fn move_turns(
         from += 0x10000;
     }
     at
+}
+
+// Puts the end of each stream that there is, video first, as request 1 does.
+fn put_ends(out: &mut [u8], at: usize, audio: bool) -> usize
+    requires { ⌜ at + length (bytesOf (inEach audio (λ stream. markerOf contentsEnd))) ≤ length (now out) ⌝ }
+    ensures { λ r. ⌜ Put (bytesOf (inEach audio (λ stream. markerOf contentsEnd))) (now (out .entry)) at (now (out .exit)) r ⌝ }
+{
+    let at = put_chunk(
+        out,
+        at,
+        Form::New,
+        Stream::Video,
+        0,
+        b"#CONTENTS END\0\0\0\0\0\0\0\0\0\0\0\0\0\0\0\0\0\0\0",
+    );
+    if audio {
+        return put_chunk(
+            out,
+            at,
+            Form::New,
+            Stream::Audio,
+            0,
+            b"#CONTENTS END\0\0\0\0\0\0\0\0\0\0\0\0\0\0\0\0\0\0\0",
+        );
+    }
+    at
+}
+
+// How many bytes they take.
+fn ends_size(audio: bool) -> usize
+    ensures { λ r. ⌜ r ≡ length (bytesOf (inEach audio (λ stream. markerOf contentsEnd))) ⌝ }
+{
+    if audio {
+        return 0x80;
+    }
+    0x40
+}
+
+// ---- from the old builder's container
+
+// A refusal, at place 0.
+fn refused(cause: Cause) -> Written
+    ensures { λ r. ⌜ r ≡ refusedBy cause ⌝ }
+{
+    Written::Refused(Refusal { cause, place: 0 })
+}
+
+// How a film is packed that is moved: as it is stored.
+fn packing_of(audio: bool, mpeg_codec: Codec, audio_codec: Codec) -> Packing
+    ensures { λ r. ⌜ r ≡ packingOf audio «mpeg_codec» «audio_codec» ⌝ }
+{
+    Packing {
+        audio,
+        mpeg_codec,
+        audio_codec,
+        key: Key::Absent,
+    }
+}
+
+// The size of a film with these turns, which has `frame` bytes without them, or why it is refused whatever the output.
+fn plan_turns(frame: usize, turns: Turns) -> Written
+    requires { ⌜ (frame ≤ 0x40000000) × (turns .video ≤ 0x40000000) × (turns .audio ≤ 0x40000000) ⌝ }
+    ensures { λ r. ⌜ r ≡ plannedAs (frame + (streamSize form.New (turns .video) + streamSize form.New (turns .audio))) (turns .marked) ⌝ }
+{
+    let video = film_turns::stream_size(Form::New, turns.video as u32);
+    let audio = film_turns::stream_size(Form::New, turns.audio as u32);
+    let size = frame + (video + audio);
+    if LONGEST < size {
+        return refused(Cause::TooLong);
+    }
+    if turns.marked {
+        return refused(Cause::MarkedPayload);
+    }
+    Written::Size(size)
 }
