@@ -14,6 +14,7 @@ use Rattle.film_plan.specs.declared.Stream.the-variants.{Video, Audio}
 use Rattle.film_plan.specs.Films.{bytesOf, inEach}
 use Rattle.write.proofs.EachPutLaws.{first-fits, second-fits, both-put, one-put}
 use Rattle.film_turns.specs.declared.Form.the-variants.{New}
+use Rattle.film_turns.specs.declared.Track.the-variants as track
 use Rattle.film_turns.specs.Chunks.{chunkOf}
 use Rattle.film_move.proofs.NewLaws.{chunk-new}
 use Rattle.film_move.proofs.FromLaws.{ends-length}
@@ -22,17 +23,17 @@ abbrev held : Stream → List ℕ
 held stream = markerOf contentsEnd
 
 module _ (out : List ℕ) (at : ℕ) (audio : Bool) (room : at + length (bytesOf (inEach audio held)) ≤ length out) where
-  pub video-end-fits : at + length (chunkOf New Video 0 (markerOf contentsEnd)) ≤ length out
+  pub video-end-fits : at + length (chunkOf New track.Video 0 (markerOf contentsEnd)) ≤ length out
   video-end-fits = rw (chunk-new Video 0 (markerOf contentsEnd)) (first-fits held out at audio room)
 
-  module _ {after : List ℕ} {end : ℕ} (put : Put (chunkOf New Video 0 (markerOf contentsEnd)) out at after end) where
+  module _ {after : List ℕ} {end : ℕ} (put : Put (chunkOf New track.Video 0 (markerOf contentsEnd)) out at after end) where
     first : Put (blockOf SFV (markerOf contentsEnd)) out at after end
     first = put-as put (chunk-new Video 0 (markerOf contentsEnd))
 
-    pub audio-end-fits : audio ≡ true → end + length (chunkOf New Audio 0 (markerOf contentsEnd)) ≤ length after
+    pub audio-end-fits : audio ≡ true → end + length (chunkOf New (track.Audio 0) 0 (markerOf contentsEnd)) ≤ length after
     audio-end-fits e = rw (chunk-new Audio 0 (markerOf contentsEnd)) (second-fits held out at first audio e room)
 
-    pub both-ends : audio ≡ true → {last : List ℕ} {ends : ℕ} → Put (chunkOf New Audio 0 (markerOf contentsEnd)) after end last ends → Put (bytesOf (inEach audio held)) out at last ends
+    pub both-ends : audio ≡ true → {last : List ℕ} {ends : ℕ} → Put (chunkOf New (track.Audio 0) 0 (markerOf contentsEnd)) after end last ends → Put (bytesOf (inEach audio held)) out at last ends
     both-ends e next = both-put held out at first audio e (put-as next (chunk-new Audio 0 (markerOf contentsEnd)))
 
     pub one-end : audio ≡ false → Put (bytesOf (inEach audio held)) out at after end

@@ -38,7 +38,7 @@ use Rattle.film_turns.specs.declared.Form.the-variants.{Old, New}
 use Rattle.film_turns.specs.Turns.{chunksOf, streamSize, Read, readIn}
 use Rattle.film_turns.proofs.ReadLaws.{turns-none}
 use Rattle.film_turns.proofs.SizeLaws.{size-few, chunks-length, read-fits}
-use Rattle.film_turns.proofs.PayloadLaws.{part-none}
+use Rattle.film_turns.proofs.PayloadLaws.{part-again}
 use Rattle.word.specs.Numbers.{be32}
 use Rattle.old_film.specs.declared.OldFilm.{OldFilm}
 use Rattle.old_film.specs.declared.Found.the-variants.{Film, Foreign}
@@ -225,19 +225,9 @@ module _ (c : List ℕ) where
   unfolding partsOf
   read-is = refl
 
-  part-again : (place n : ℕ) → partAt c place (length (partAt c place n)) ≡ partAt c place n
-  part-again place n =
-      ⊎-elim
-      (λ (h : length c < place + n).
-      let z : partAt c place n ≡ [] = rw (lt-leb (place + n) (length c) h) in
-      ap (λ (l : List ℕ). partAt c place (length l)) z ∙ part-none c place ∙ sym z)
-      (λ (h : place + n ≤ length c).
-      let l : length (partAt c place n) ≡ n = rw (le-leb (place + n) (length c) h) (length-take-le n (drop place c) (rw length-drop (omega arith))) in
-      ap (partAt c place) l) (side (length c) (place + n))
-
   name-is : partAt c 96 (length (P .name)) ≡ P .name
   unfolding partsOf
-  name-is = part-again 96 (be32 c 4 - 89)
+  name-is = part-again c 96 (be32 c 4 - 89)
 
   -- what stands from a place on, as a part
   pub rest-part : (place : ℕ) → partAt c place (length c - place) ≡ drop place c

@@ -8,7 +8,7 @@ use native.Mathlib.Omega.{arith}
 use lib.ListN.{length, drop}
 use lib.Dec.{eqb}
 use Rattle.signature.specs.Signatures.{contentsEnd, sameBytes, standsAt}
-use Rattle.film_plan.specs.declared.Stream.the-variants.{Video, Audio}
+use Rattle.film_turns.specs.declared.Track.the-variants.{Video, Audio}
 use Rattle.film_plan.specs.Payloads.{payloadsOf}
 use Rattle.film_plan.specs.Planning.{anyMarked}
 use Rattle.film_plan.proofs.PayloadLaws.{payloads-none, payloads-more}
@@ -52,4 +52,4 @@ read-marked form (suc n) from seen heard bytes =
     ∙ shuffle (standsAt contentsEnd v 0) (standsAt contentsEnd a 0) (anyMarked (payloadsOf (r .video))) (anyMarked (payloadsOf (r .audio)))
     ∙ ap₂ (λ (s t : Bool). s || t)
     (sym (joined v (r .video) (held form Video from bytes seen .few) (joins form n (from + 0x10000) (goesOn v) (goesOn a) last v refl)))
-    (sym (joined a (r .audio) (held form Audio from (drop (chunkSize form (length v)) bytes) heard .few) (joins-audio form n (from + 0x10000) (goesOn v) (goesOn a) last a refl))))
+    (sym (joined a (r .audio) (held form (Audio 0) from (drop (chunkSize form (length v)) bytes) heard .few) (joins-audio form n (from + 0x10000) (goesOn v) (goesOn a) last a refl))))

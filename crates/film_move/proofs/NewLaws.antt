@@ -13,10 +13,17 @@ use Rattle.film_plan.specs.Payloads.{storedAs}
 use Rattle.film_plan.specs.Films.{lettersOf, bytesOf, nextChunk, chunkBlocks}
 use Rattle.film_plan.proofs.TurnLaws.{turns-bytes, turns-over, next-bytes, next-none}
 use Rattle.film_turns.specs.declared.Form.the-variants.{New}
+use Rattle.film_turns.specs.declared.Track.{Track}
+use Rattle.film_turns.specs.declared.Track.the-variants as track
 use Rattle.film_turns.specs.Chunks.{shapeOf, headBy, chunkOf}
 use Rattle.film_turns.specs.Turns.{nextOf, turnsOf, chunksOf}
 
 -- ---- a chunk
+
+-- the writer knows one audio
+abbrev pub trackOf : Stream → Track
+trackOf Video = track.Video
+trackOf Audio = track.Audio 0
 
 module _ (p : ℕ) (small : p < 0x20) where
   sizes-1 : (0x00180000 + p) / 2 ^ 24 % 2 ^ 8 ≡ 0
@@ -31,7 +38,7 @@ module _ (p : ℕ) (small : p < 0x20) where
   sizes-4 : (0x00180000 + p) % 2 ^ 8 ≡ p % 2 ^ 8
   sizes-4 = omega arith
 
-pub chunk-new : (stream : Stream) (from : ℕ) (payload : List ℕ) → chunkOf New stream from payload ≡ blockOf (lettersOf stream) payload
+pub chunk-new : (stream : Stream) (from : ℕ) (payload : List ℕ) → chunkOf New (trackOf stream) from payload ≡ blockOf (lettersOf stream) payload
 unfolding chunkOf shapeOf headBy blockOf headOf
 chunk-new Video from payload =
     let h : padding (length payload) < 0x20 = omega arith in
@@ -47,7 +54,7 @@ module _ (by : Unmasking) (v : by .video ≡ false) (a : by .audio ≡ false) wh
   as-stored Video payload = rw v
   as-stored Audio payload = rw a
 
-  next-new : (stream : Stream) (from : ℕ) (bytes : List ℕ) → bytesOf (nextChunk by stream bytes) ≡ nextOf New stream from bytes
+  next-new : (stream : Stream) (from : ℕ) (bytes : List ℕ) → bytesOf (nextChunk by stream bytes) ≡ nextOf New (trackOf stream) from bytes
   unfolding nextOf
   next-new stream from [] = next-none by stream
   next-new stream from (byte ∷ bytes) =

@@ -10,8 +10,8 @@ use lib.Dec.{eqb}
 use Rattle.laws.specs.Outputs.{Put}
 use Rattle.laws.proofs.PutLaws.{Left, all-left, less-left, left-fits, next-fits, none-left, put-then, put-as, put-none}
 use Rattle.film_blocks.specs.Blocks.{zeros}
-use Rattle.film_plan.specs.declared.Stream.{Stream}
-use Rattle.film_plan.specs.declared.Stream.the-variants.{Video, Audio}
+use Rattle.film_turns.specs.declared.Track.{Track}
+use Rattle.film_turns.specs.declared.Track.the-variants.{Video, Audio}
 use Rattle.film_turns.specs.declared.Form.{Form}
 use Rattle.film_turns.specs.declared.Shape.{Shape}
 use Rattle.film_turns.specs.declared.Turns.{Turns}
@@ -25,14 +25,14 @@ use Rattle.film_move.specs.Moving.{movedFrom}
 
 -- ---- a chunk
 
-module _ (form : Form) (stream : Stream) (from : ℕ) (payload out : List ℕ) (at : ℕ) (room : at + length (chunkOf form stream from payload) ≤ length out) (shape : Shape)
-    (e : shape ≡ shapeOf form stream from (length payload)) where
+module _ (form : Form) (track : Track) (from : ℕ) (payload out : List ℕ) (at : ℕ) (room : at + length (chunkOf form track from payload) ≤ length out) (shape : Shape)
+    (e : shape ≡ shapeOf form track from (length payload)) where
   abbrev held-by : List ℕ
   held-by = payload ++ zeros (shape .pads)
 
-  all : Left (headBy shape ++ (zeros (shape .gap) ++ held-by)) out at (chunkOf form stream from payload) out at
+  all : Left (headBy shape ++ (zeros (shape .gap) ++ held-by)) out at (chunkOf form track from payload) out at
   unfolding chunkOf
-  all = rw e (all-left (chunkOf form stream from payload) out at)
+  all = rw e (all-left (chunkOf form track from payload) out at)
 
   pub head-fits : at + length (headBy shape) ≤ length out
   head-fits = next-fits (headBy shape) (zeros (shape .gap) ++ held-by) all room
@@ -49,22 +49,22 @@ module _ (form : Form) (stream : Stream) (from : ℕ) (payload out : List ℕ) (
         pub pads-have-room : at₃ + shape .pads ≤ length out₃
         pads-have-room = rw (length-replicate {A = ℕ} (shape .pads) 0) at (left-fits (less-left (less-left (less-left all head) gap) inside) room)
 
-        pub chunk-put : {out₄ : List ℕ} {at₄ : ℕ} → Put (zeros (shape .pads)) out₃ at₃ out₄ at₄ → Put (chunkOf form stream from payload) out at out₄ at₄
+        pub chunk-put : {out₄ : List ℕ} {at₄ : ℕ} → Put (zeros (shape .pads)) out₃ at₃ out₄ at₄ → Put (chunkOf form track from payload) out at out₄ at₄
         unfolding chunkOf
         chunk-put pads = rw e at (put-then head (put-then gap (put-then inside pads)))
 
 -- ---- the next chunk
 
-pub next-is : (form : Form) (stream : Stream) (from : ℕ) (payload : List ℕ) → length payload ≤ 0x10000 → (length payload ≡ 0 → ⊥)
-    → nextOf form stream from payload ≡ chunkOf form stream from payload
+pub next-is : (form : Form) (track : Track) (from : ℕ) (payload : List ℕ) → length payload ≤ 0x10000 → (length payload ≡ 0 → ⊥)
+    → nextOf form track from payload ≡ chunkOf form track from payload
 unfolding nextOf
-next-is form stream from [] few some = absurd (some refl)
-next-is form stream from (byte ∷ payload) few some = ap (chunkOf form stream from) (take-all 0x10000 (byte ∷ payload) few)
+next-is form track from [] few some = absurd (some refl)
+next-is form track from (byte ∷ payload) few some = ap (chunkOf form track from) (take-all 0x10000 (byte ∷ payload) few)
 
-pub next-none : (form : Form) (stream : Stream) (from : ℕ) (payload : List ℕ) → length payload ≡ 0 → [] ≡ nextOf form stream from payload
+pub next-none : (form : Form) (track : Track) (from : ℕ) (payload : List ℕ) → length payload ≡ 0 → [] ≡ nextOf form track from payload
 unfolding nextOf
-next-none form stream from [] e = refl
-next-none form stream from (byte ∷ payload) e = absurd (omega arith)
+next-none form track from [] e = refl
+next-none form track from (byte ∷ payload) e = absurd (omega arith)
 
 -- ---- turns
 
@@ -111,7 +111,7 @@ module _ (old new : Form) (audio : Bool) (bytes start : List ℕ) (first : ℕ) 
     v-few = held old Video from (drop place bytes) seen .few
 
     pub a-few : length a ≤ 0x10000
-    a-few = held old Audio from behind heard .few
+    a-few = held old (Audio 0) from behind heard .few
 
     -- the payloads, as parts
     pub v-part : partAt (drop place bytes) (28 + gapOf old) (turn .video) ≡ v
@@ -120,7 +120,7 @@ module _ (old new : Form) (audio : Bool) (bytes start : List ℕ) (first : ℕ) 
     pub a-part : (middle : ℕ) → middle ≡ place + chunkSize old (turn .video) → partAt (drop middle bytes) (28 + gapOf old) (turn .audio) ≡ a
     a-part middle e =
         ap₂ (λ (m k : ℕ). partAt (drop m bytes) (28 + gapOf old) k) (e ∙ ap (λ (t : Turns). place + chunkSize old (t .video)) (answers .0)) (ap (λ (t : Turns). t .audio) (answers .0))
-        ∙ ap (λ (l : List ℕ). partAt l (28 + gapOf old) (length a)) (sym (drop-drop (chunkSize old (length v)) place bytes)) ∙ payload-is old behind Audio from heard
+        ∙ ap (λ (l : List ℕ). partAt l (28 + gapOf old) (length a)) (sym (drop-drop (chunkSize old (length v)) place bytes)) ∙ payload-is old behind (Audio 0) from heard
 
     pub middle-fits : place + chunkSize old (turn .video) ≤ length bytes
     middle-fits =
@@ -131,14 +131,14 @@ module _ (old new : Form) (audio : Bool) (bytes start : List ℕ) (first : ℕ) 
       later = after old audio bytes place from seen heard turn test within answers n
 
       turn-is : turnsOf new (suc n) from (v ++ later .video) (a ++ later .audio)
-          ≡ nextOf new Video from v ++ (nextOf new Audio from a ++ turnsOf new n (from + 0x10000) (later .video) (later .audio))
+          ≡ nextOf new Video from v ++ (nextOf new (Audio 0) from a ++ turnsOf new n (from + 0x10000) (later .video) (later .audio))
       turn-is =
           turns-more new n from v a (later .video) (later .audio) v-few a-few
           (joins old n (from + 0x10000) (eqb (turn .video) 0x10000) (eqb (turn .audio) 0x10000) (drop (place + turn .end) bytes) v (ap (λ (t : Turns). eqb (t .video) 0x10000) (answers .0)))
           (joins-audio old n (from + 0x10000) (eqb (turn .video) 0x10000) (eqb (turn .audio) 0x10000) (drop (place + turn .end) bytes) a (ap (λ (t : Turns). eqb (t .audio) 0x10000) (answers .0)))
 
     abbrev Goes : List ℕ → Type 0
-    Goes rest = Left (nextOf new Video from v ++ (nextOf new Audio from a ++ rest)) out at whole start first
+    Goes rest = Left (nextOf new Video from v ++ (nextOf new (Audio 0) from a ++ rest)) out at whole start first
 
     peeled : (l : MoveLeft old new audio bytes start first out at place from seen heard) → (n : ℕ) × ((l .n ≡ suc n) × Goes (turnsOf new n (from + 0x10000) (later n .video) (later n .audio)))
     peeled l = peel (l .n) (l .enough test) (l .left) where
@@ -159,13 +159,13 @@ module _ (old new : Form) (audio : Bool) (bytes start : List ℕ) (first : ℕ) 
       rest = turnsOf new m (from + 0x10000) (later m .video) (later m .audio)
 
       pub video-fits : at + length (nextOf new Video from v) ≤ length out
-      video-fits = next-fits (nextOf new Video from v) (nextOf new Audio from a ++ rest) (peeled l .1 .1) room
+      video-fits = next-fits (nextOf new Video from v) (nextOf new (Audio 0) from a ++ rest) (peeled l .1 .1) room
 
       module _ {out₁ : List ℕ} {at₁ : ℕ} (put : Put (nextOf new Video from v) out at out₁ at₁) where
-        pub audio-fits : at₁ + length (nextOf new Audio from a) ≤ length out₁
-        audio-fits = next-fits (nextOf new Audio from a) rest (less-left (peeled l .1 .1) put) room
+        pub audio-fits : at₁ + length (nextOf new (Audio 0) from a) ≤ length out₁
+        audio-fits = next-fits (nextOf new (Audio 0) from a) rest (less-left (peeled l .1 .1) put) room
 
-        pub turn-moved : {out₂ : List ℕ} {at₂ : ℕ} → Put (nextOf new Audio from a) out₁ at₁ out₂ at₂
+        pub turn-moved : {out₂ : List ℕ} {at₂ : ℕ} → Put (nextOf new (Audio 0) from a) out₁ at₁ out₂ at₂
             → MoveLeft old new audio bytes start first out₂ at₂ (place + turn .end) (from + 0x10000) (eqb (turn .video) 0x10000) (eqb (turn .audio) 0x10000)
         turn-moved put′ =
             record {

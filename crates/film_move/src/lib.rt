@@ -1,6 +1,5 @@
 // Moves a film between the old builder's container and request 1's. Payloads travel as stored, so no key is needed. Rules O.
 ghost use mathlib.Core.Path.{_≡_};
-ghost use mathlib.Core.Bool.{_||_};
 ghost use Prim.Native.Nat.{_+_, _≤_};
 ghost use lib.ListN.{length};
 ghost use Rattle.laws.specs.Outputs.{Put};
@@ -16,8 +15,8 @@ ghost use Rattle.film_move.specs.Moving.{movedFrom};
 ghost use Rattle.film_move.specs.FromOld.{plannedAs, packingOf};
 use codec::Codec;
 use film_plan::Packing;
-use film_plan::Stream;
 use film_turns::Form;
+use film_turns::Track;
 use film_turns::Turns;
 use refusal::Cause;
 use refusal::Refusal;
@@ -53,14 +52,14 @@ fn put_chunk(
     out: &mut [u8],
     at: usize,
     form: Form,
-    stream: Stream,
+    track: Track,
     from: usize,
     payload: &[u8],
 ) -> usize
-    requires { ⌜ (at + length (chunkOf form stream from (now payload)) ≤ length (now out)) × (length (now payload) ≤ 0x10000) ⌝ }
-    ensures { λ r. ⌜ Put (chunkOf form stream from (now (payload .entry))) (now (out .entry)) at (now (out .exit)) r ⌝ }
+    requires { ⌜ (at + length (chunkOf form track from (now payload)) ≤ length (now out)) × (length (now payload) ≤ 0x10000) ⌝ }
+    ensures { λ r. ⌜ Put (chunkOf form track from (now (payload .entry))) (now (out .entry)) at (now (out .exit)) r ⌝ }
 {
-    let shape = film_turns::shape_of(form, stream, from, payload.len() as u32);
+    let shape = film_turns::shape_of(form, track, from, payload.len() as u32);
     let head = film_turns::head_by(shape);
     let at = put(out, at, &head);
     let at = put_zeros(out, at, shape.gap);
@@ -73,27 +72,17 @@ fn put_next(
     out: &mut [u8],
     at: usize,
     form: Form,
-    stream: Stream,
+    track: Track,
     from: usize,
     payload: &[u8],
 ) -> usize
-    requires { ⌜ (at + length (nextOf form stream from (now payload)) ≤ length (now out)) × (length (now payload) ≤ 0x10000) ⌝ }
-    ensures { λ r. ⌜ Put (nextOf form stream from (now (payload .entry))) (now (out .entry)) at (now (out .exit)) r ⌝ }
+    requires { ⌜ (at + length (nextOf form track from (now payload)) ≤ length (now out)) × (length (now payload) ≤ 0x10000) ⌝ }
+    ensures { λ r. ⌜ Put (nextOf form track from (now (payload .entry))) (now (out .entry)) at (now (out .exit)) r ⌝ }
 {
     if payload.len() == 0 {
         return at;
     }
-    put_chunk(out, at, form, stream, from, payload)
-}
-
-// One or the other.
-fn either(some: bool, other: bool) -> bool
-    ensures { λ r. ⌜ r ≡ (some || other) ⌝ }
-{
-    if some {
-        return true;
-    }
-    other
+    put_chunk(out, at, form, track, from, payload)
 }
 
 // Puts the turns that bytes begin with in one container as those of the other.
@@ -113,15 +102,15 @@ fn move_turns(
     let mut from = 0;
     let mut seen = true;
     let mut heard = audio;
-    while either(seen, heard) {
+    while film_turns::either(seen, heard) {
         let turn = film_turns::turn_in(&bytes[place..], old, from, seen, heard);
         let v = turn.video;
         let a = turn.audio;
         let video = film_turns::payload_of(&bytes[place..], old, v);
         let middle = place + film_turns::chunk_size(old, v as u32);
         let sound = film_turns::payload_of(&bytes[middle..], old, a);
-        let next = put_next(out, at, new, Stream::Video, from, video);
-        let end = put_next(out, next, new, Stream::Audio, from, sound);
+        let next = put_next(out, at, new, Track::Video, from, video);
+        let end = put_next(out, next, new, Track::Audio(0), from, sound);
         at = end;
         seen = v == 0x10000;
         heard = a == 0x10000;
@@ -140,7 +129,7 @@ fn put_ends(out: &mut [u8], at: usize, audio: bool) -> usize
         out,
         at,
         Form::New,
-        Stream::Video,
+        Track::Video,
         0,
         b"#CONTENTS END\0\0\0\0\0\0\0\0\0\0\0\0\0\0\0\0\0\0\0",
     );
@@ -149,7 +138,7 @@ fn put_ends(out: &mut [u8], at: usize, audio: bool) -> usize
             out,
             at,
             Form::New,
-            Stream::Audio,
+            Track::Audio(0),
             0,
             b"#CONTENTS END\0\0\0\0\0\0\0\0\0\0\0\0\0\0\0\0\0\0\0",
         );

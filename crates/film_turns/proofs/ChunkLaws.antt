@@ -13,8 +13,8 @@ use Rattle.laws.proofs.Side.{side}
 use Rattle.part.specs.Parts.{partAt}
 use Rattle.signature.specs.Signatures.{contentsEnd, standsAt}
 use Rattle.film_blocks.specs.Blocks.{zeros}
-use Rattle.film_plan.specs.declared.Stream.{Stream}
-use Rattle.film_plan.specs.declared.Stream.the-variants.{Video}
+use Rattle.film_turns.specs.declared.Track.{Track}
+use Rattle.film_turns.specs.declared.Track.the-variants.{Video}
 use Rattle.film_turns.specs.declared.Form.{Form}
 use Rattle.film_turns.specs.declared.Form.the-variants.{Old, New}
 use Rattle.film_turns.specs.declared.Shape.{Shape}
@@ -37,27 +37,27 @@ zeros-length n h = ap length (some-of n 0x20 h) ∙ length-replicate n 0
 
 -- ---- shapes
 
-pub gap-is : (form : Form) (stream : Stream) (from n : ℕ) → shapeOf form stream from n .gap ≡ gapOf form
+pub gap-is : (form : Form) (track : Track) (from n : ℕ) → shapeOf form track from n .gap ≡ gapOf form
 unfolding shapeOf
-gap-is Old stream from n = refl
-gap-is New stream from n = refl
+gap-is Old track from n = refl
+gap-is New track from n = refl
 
 pub gap-fits : (form : Form) → gapOf form ≤ 4
 gap-fits Old = omega arith
 gap-fits New = omega arith
 
-pub pads-fit : (form : Form) (stream : Stream) (from n : ℕ) → shapeOf form stream from n .pads < 0x20
+pub pads-fit : (form : Form) (track : Track) (from n : ℕ) → shapeOf form track from n .pads < 0x20
 unfolding shapeOf
-pads-fit Old stream from n = omega arith
-pads-fit New stream from n = omega arith
+pads-fit Old track from n = omega arith
+pads-fit New track from n = omega arith
 
-pub shape-fits : (shape : Shape) (form : Form) (stream : Stream) (from n : ℕ) → shape ≡ shapeOf form stream from n → (shape .gap ≤ 4) × (shape .pads < 0x20)
-shape-fits shape form stream from n e = rw e (rw (gap-is form stream from n) (gap-fits form), pads-fit form stream from n)
+pub shape-fits : (shape : Shape) (form : Form) (track : Track) (from n : ℕ) → shape ≡ shapeOf form track from n → (shape .gap ≤ 4) × (shape .pads < 0x20)
+shape-fits shape form track from n e = rw e (rw (gap-is form track from n) (gap-fits form), pads-fit form track from n)
 
-same-size : (form : Form) (stream : Stream) (from n : ℕ) → sizeBy (shapeOf form stream from n) n ≡ sizeBy (shapeOf form Video 0 n) n
+same-size : (form : Form) (track : Track) (from n : ℕ) → sizeBy (shapeOf form track from n) n ≡ sizeBy (shapeOf form Video 0 n) n
 unfolding shapeOf
-same-size Old stream from n = refl
-same-size New stream from n = refl
+same-size Old track from n = refl
+same-size New track from n = refl
 
 head-length : (shape : Shape) → length (headBy shape) ≡ 28
 unfolding headBy
@@ -67,12 +67,12 @@ laid-length : (shape : Shape) (payload : List ℕ) → length (laidBy shape payl
 laid-length shape payload =
     simp (length-append, head-length shape, length-replicate {A = ℕ} (shape .gap) 0, length-replicate {A = ℕ} (shape .pads) 0) (omega arith)
 
-pub chunk-length : (form : Form) (stream : Stream) (from : ℕ) (payload : List ℕ) → 0 < length payload
-    → length (chunkOf form stream from payload) ≡ chunkSize form (length payload)
+pub chunk-length : (form : Form) (track : Track) (from : ℕ) (payload : List ℕ) → 0 < length payload
+    → length (chunkOf form track from payload) ≡ chunkSize form (length payload)
 unfolding chunkOf chunkSize
-chunk-length form stream from payload h =
-    let shape = shapeOf form stream from (length payload) in
-    laid-length shape payload ∙ same-size form stream from (length payload) ∙ rw (ne-eqb (length payload) 0 (λ e. omega arith))
+chunk-length form track from payload h =
+    let shape = shapeOf form track from (length payload) in
+    laid-length shape payload ∙ same-size form track from (length payload) ∙ rw (ne-eqb (length payload) 0 (λ e. omega arith))
 
 pub size-none : (form : Form) → chunkSize form 0 ≡ 0
 unfolding chunkSize
@@ -114,13 +114,13 @@ module _ (shape : Shape) (n : ℕ) (bytes : List ℕ) (there : 28 + shape .gap +
 
 -- ---- the answer
 
-abbrev pub Answers : Form → Stream → ℕ → Bool → List ℕ → Seen → Type 0
-Answers form stream from going bytes r =
-    (r ≡ seenAs (payloadIn form stream from going bytes)) × (r .len ≤ 0x10000) × (chunkSize form (r .len) ≤ length bytes)
+abbrev pub Answers : Form → Track → ℕ → Bool → List ℕ → Seen → Type 0
+Answers form track from going bytes r =
+    (r ≡ seenAs (payloadIn form track from going bytes)) × (r .len ≤ 0x10000) × (chunkSize form (r .len) ≤ length bytes)
 
-pub none-answers : (form : Form) (stream : Stream) (from : ℕ) (going : Bool) (bytes : List ℕ) (r : Seen) → payloadIn form stream from going bytes ≡ [] → r ≡ seenAs []
-    → Answers form stream from going bytes r
-none-answers form stream from going bytes r e f = rw f (rw e (refl, omega arith, rw (size-none form) (omega arith)))
+pub none-answers : (form : Form) (track : Track) (from : ℕ) (going : Bool) (bytes : List ℕ) (r : Seen) → payloadIn form track from going bytes ≡ [] → r ≡ seenAs []
+    → Answers form track from going bytes r
+none-answers form track from going bytes r e f = rw f (rw e (refl, omega arith, rw (size-none form) (omega arith)))
 
 cond-same : (t : Bool) → cond {A = List ℕ} t [] [] ≡ []
 cond-same true = refl
@@ -147,44 +147,44 @@ module _ (payload : List ℕ) where
   all-there : (long stands ends : Bool) → long ≡ false → stands ≡ true → ends ≡ false → picked long stands ends ≡ payload
   all-there long stands ends e f g = rw (e, f, g)
 
-module _ (form : Form) (stream : Stream) (from : ℕ) (bytes : List ℕ) (len : ℕ) (e : len ≡ lenIn form bytes) (shape : Shape) (f : shape ≡ shapeOf form stream from len) where
+module _ (form : Form) (track : Track) (from : ℕ) (bytes : List ℕ) (len : ℕ) (e : len ≡ lenIn form bytes) (shape : Shape) (f : shape ≡ shapeOf form track from len) where
   abbrev part : List ℕ
   part = partAt bytes (28 + shape .gap) len
 
   is-inside : part ≡ insideOf form bytes
-  is-inside = rw (f, gap-is form stream from len, e)
+  is-inside = rw (f, gap-is form track from len, e)
 
-  at-part : payloadIn form stream from true bytes ≡ heldBy form stream from part bytes
+  at-part : payloadIn form track from true bytes ≡ heldBy form track from part bytes
   unfolding payloadIn
-  at-part = ap (λ (l : List ℕ). heldBy form stream from l bytes) (sym is-inside)
+  at-part = ap (λ (l : List ℕ). heldBy form track from l bytes) (sym is-inside)
 
-  pub not-there : length bytes < 28 + shape .gap + len → payloadIn form stream from true bytes ≡ []
+  pub not-there : length bytes < 28 + shape .gap + len → payloadIn form track from true bytes ≡ []
   not-there h =
       let z : part ≡ [] = rw (lt-leb (28 + shape .gap + len) (length bytes) h) in
-      at-part ∙ ap (λ (l : List ℕ). heldBy form stream from l bytes) z ∙ cond-same (not (ltb 0x10000 0) && standsAt (chunkOf form stream from []) bytes 0 && not (isEnd form []))
+      at-part ∙ ap (λ (l : List ℕ). heldBy form track from l bytes) z ∙ cond-same (not (ltb 0x10000 0) && standsAt (chunkOf form track from []) bytes 0 && not (isEnd form []))
 
   module _ (there : 28 + shape .gap + len ≤ length bytes) where
     part-length : length part ≡ len
     part-length = payload-length shape len bytes there
 
     abbrev stands : Bool
-    stands = standsAt (chunkOf form stream from part) bytes 0
+    stands = standsAt (chunkOf form track from part) bytes 0
 
-    pub too-long : 0x10000 < len → payloadIn form stream from true bytes ≡ []
+    pub too-long : 0x10000 < len → payloadIn form track from true bytes ≡ []
     too-long h = at-part ∙ no-long part (ltb 0x10000 (length part)) stands (isEnd form part) (lt-ltb 0x10000 (length part) (omega (arith, part-length)))
 
-    pub marks-end : (payload : List ℕ) → payload ≡ part → isEnd form payload ≡ true → payloadIn form stream from true bytes ≡ []
+    pub marks-end : (payload : List ℕ) → payload ≡ part → isEnd form payload ≡ true → payloadIn form track from true bytes ≡ []
     marks-end payload g h = at-part ∙ no-end part (ltb 0x10000 (length part)) stands (isEnd form part) (ap (isEnd form) (sym g) ∙ h)
 
     as-laid : stands ≡ standsAt (laidBy shape part) bytes 0
     unfolding chunkOf
-    as-laid = ap (λ (s : Shape). standsAt (laidBy s part) bytes 0) (ap (shapeOf form stream from) part-length ∙ sym f)
+    as-laid = ap (λ (s : Shape). standsAt (laidBy s part) bytes 0) (ap (shapeOf form track from) part-length ∙ sym f)
 
-    pub another : standsAt (laidBy shape part) bytes 0 ≡ false → payloadIn form stream from true bytes ≡ []
+    pub another : standsAt (laidBy shape part) bytes 0 ≡ false → payloadIn form track from true bytes ≡ []
     another h = at-part ∙ no-stand part (ltb 0x10000 (length part)) stands (isEnd form part) (as-laid ∙ h)
 
     module _ (payload : List ℕ) (g : payload ≡ part) (fits : len ≤ 0x10000) (stand : standsAt (laidBy shape part) bytes 0 ≡ true) (goes : isEnd form payload ≡ false) where
-      found : payloadIn form stream from true bytes ≡ part
+      found : payloadIn form track from true bytes ≡ part
       found =
           at-part
           ∙ all-there part (ltb 0x10000 (length part)) stands (isEnd form part) (le-ltb 0x10000 (length part) (omega (arith, part-length))) (as-laid ∙ stand)
@@ -195,9 +195,9 @@ module _ (form : Form) (stream : Stream) (from : ℕ) (bytes : List ℕ) (len : 
       held-fits =
           ⊎-elim (λ (z : len < 1). let n : len ≡ 0 = omega arith in rw (n, size-none form) (omega arith))
           (λ (some : 1 ≤ len).
-          let l : length (chunkOf form stream from part) ≡ chunkSize form len = chunk-length form stream from part (omega (arith, part-length)) ∙ ap (chunkSize form) part-length in
-          let s : front (chunkOf form stream from part) bytes ≡ true = sym (stands-front (chunkOf form stream from part) bytes 0) ∙ as-laid ∙ stand in
-          omega (arith, l, front-fits (chunkOf form stream from part) bytes s)) (side len 1)
+          let l : length (chunkOf form track from part) ≡ chunkSize form len = chunk-length form track from part (omega (arith, part-length)) ∙ ap (chunkSize form) part-length in
+          let s : front (chunkOf form track from part) bytes ≡ true = sym (stands-front (chunkOf form track from part) bytes 0) ∙ as-laid ∙ stand in
+          omega (arith, l, front-fits (chunkOf form track from part) bytes s)) (side len 1)
 
-      pub some-answers : (marked : Bool) → marked ≡ standsAt contentsEnd payload 0 → Answers form stream from true bytes (record { len = len; marked = marked })
+      pub some-answers : (marked : Bool) → marked ≡ standsAt contentsEnd payload 0 → Answers form track from true bytes (record { len = len; marked = marked })
       some-answers marked m = (rw (found, sym g, m) (ap (λ (n : ℕ). record { len = n; marked = standsAt contentsEnd payload 0 }) (sym (ap length g ∙ part-length))), fits, held-fits)

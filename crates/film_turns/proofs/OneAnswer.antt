@@ -3,6 +3,7 @@ use mathlib.Core.Path.{_≡_}
 use Rattle.laws.proofs.OneAnswer.{no-second-answer}
 use Rattle.film_turns.proofs.shape_of.Reads as shape-of
 use Rattle.film_turns.proofs.less.Reads as less
+use Rattle.film_turns.proofs.either.Reads as either
 use Rattle.film_turns.proofs.head_by.Reads as head-by
 use Rattle.film_turns.proofs.chunk_size.Reads as chunk-size
 use Rattle.film_turns.proofs.payload_in.Reads as payload-in
@@ -38,3 +39,6 @@ stream-size-once κs args r r′ exit exit′ = no-second-answer
 
 pub payload-of-once : (κs : _) (args : _) (r r′ : _) (exit exit′ : _) → payload-of.Learnt κs args r exit → payload-of.Learnt κs args r′ exit′ → SamePart r r′
 payload-of-once κs args r r′ exit exit′ = one-part (args .0) _ _ r r′
+
+pub either-once : (κs : _) (args : _) (r r′ : _) (exit exit′ : _) → either.Learnt κs args r exit → either.Learnt κs args r′ exit′ → r ≡ r′
+either-once κs args r r′ exit exit′ = no-second-answer

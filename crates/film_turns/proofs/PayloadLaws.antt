@@ -12,7 +12,7 @@ use borrow.Author.Tests.{le-leb, lt-leb}
 use Rattle.laws.proofs.Side.{side}
 use Rattle.part.specs.Parts.{partAt}
 use Rattle.signature.specs.Signatures.{standsAt}
-use Rattle.film_plan.specs.declared.Stream.{Stream}
+use Rattle.film_turns.specs.declared.Track.{Track}
 use Rattle.film_turns.specs.declared.Form.{Form}
 use Rattle.film_turns.specs.Chunks.{chunkOf, gapOf, lenIn, insideOf, isEnd, payloadIn}
 
@@ -22,7 +22,7 @@ part-none bytes place = either (leb (place + 0) (length bytes)) where
   either true = refl
   either false = refl
 
-part-again : (bytes : List ℕ) (place n : ℕ) → partAt bytes place (length (partAt bytes place n)) ≡ partAt bytes place n
+pub part-again : (bytes : List ℕ) (place n : ℕ) → partAt bytes place (length (partAt bytes place n)) ≡ partAt bytes place n
 part-again bytes place n =
     ⊎-elim
     (λ (h : length bytes < place + n).
@@ -37,7 +37,7 @@ module _ (form : Form) (bytes : List ℕ) where
   picked true = part-again bytes (28 + gapOf form) (lenIn form bytes)
   picked false = part-none bytes (28 + gapOf form)
 
-  pub payload-is : (stream : Stream) (from : ℕ) (going : Bool) → partAt bytes (28 + gapOf form) (length (payloadIn form stream from going bytes)) ≡ payloadIn form stream from going bytes
+  pub payload-is : (track : Track) (from : ℕ) (going : Bool) → partAt bytes (28 + gapOf form) (length (payloadIn form track from going bytes)) ≡ payloadIn form track from going bytes
   unfolding payloadIn
-  payload-is stream from true = picked (not (ltb 0x10000 (length (insideOf form bytes))) && standsAt (chunkOf form stream from (insideOf form bytes)) bytes 0 && not (isEnd form (insideOf form bytes)))
-  payload-is stream from false = part-none bytes (28 + gapOf form)
+  payload-is track from true = picked (not (ltb 0x10000 (length (insideOf form bytes))) && standsAt (chunkOf form track from (insideOf form bytes)) bytes 0 && not (isEnd form (insideOf form bytes)))
+  payload-is track from false = part-none bytes (28 + gapOf form)

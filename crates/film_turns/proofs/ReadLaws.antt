@@ -11,8 +11,8 @@ use lib.Dec.{ltb, eqb}
 use borrow.Author.Tests.{eqb-true, ltb-false}
 use Rattle.laws.proofs.Side.{side}
 use Rattle.signature.specs.Signatures.{standsAt}
-use Rattle.film_plan.specs.declared.Stream.{Stream}
-use Rattle.film_plan.specs.declared.Stream.the-variants.{Video, Audio}
+use Rattle.film_turns.specs.declared.Track.{Track}
+use Rattle.film_turns.specs.declared.Track.the-variants.{Video, Audio}
 use Rattle.film_turns.specs.declared.Form.{Form}
 use Rattle.film_turns.specs.Chunks.{chunkOf, chunkSize, insideOf, isEnd, heldBy, payloadIn}
 use Rattle.film_turns.specs.Turns.{nextOf, turnsOf, chunksOf, Read, nothing, goesOn, seenIn, heardIn, turnSize, withTurn, readFrom, readIn}
@@ -21,16 +21,16 @@ use Rattle.film_turns.proofs.ChunkLaws.{chunk-length, size-none}
 
 -- ---- a payload that is read
 
-pub record IsHeld (form : Form) (stream : Stream) (from : ℕ) (bytes payload : List ℕ) : Type 0 where
+pub record IsHeld (form : Form) (track : Track) (from : ℕ) (bytes payload : List ℕ) : Type 0 where
   pub few : length payload ≤ 0x10000
-  pub stands : bytes ≡ nextOf form stream from payload ++ drop (chunkSize form (length payload)) bytes
+  pub stands : bytes ≡ nextOf form track from payload ++ drop (chunkSize form (length payload)) bytes
 
-module _ (form : Form) (stream : Stream) (from : ℕ) (bytes : List ℕ) where
-  none-held : IsHeld form stream from bytes []
+module _ (form : Form) (track : Track) (from : ℕ) (bytes : List ℕ) where
+  none-held : IsHeld form track from bytes []
   unfolding nextOf
   none-held = record { few = omega arith; stands = rw (size-none form) }
 
-  some-held : (payload : List ℕ) → length payload ≤ 0x10000 → standsAt (chunkOf form stream from payload) bytes 0 ≡ true → IsHeld form stream from bytes payload
+  some-held : (payload : List ℕ) → length payload ≤ 0x10000 → standsAt (chunkOf form track from payload) bytes 0 ≡ true → IsHeld form track from bytes payload
   unfolding nextOf
   some-held [] h e = none-held
   some-held (byte ∷ payload) h e =
@@ -38,31 +38,31 @@ module _ (form : Form) (stream : Stream) (from : ℕ) (bytes : List ℕ) where
       record {
         few = h;
         stands =
-            front-true (chunkOf form stream from (byte ∷ payload)) bytes (sym (stands-front (chunkOf form stream from (byte ∷ payload)) bytes 0) ∙ e)
-            ∙ ap₂ (λ (l : List ℕ) (n : ℕ). chunkOf form stream from l ++ drop n bytes) (sym whole) (chunk-length form stream from (byte ∷ payload) (omega arith));
+            front-true (chunkOf form track from (byte ∷ payload)) bytes (sym (stands-front (chunkOf form track from (byte ∷ payload)) bytes 0) ∙ e)
+            ∙ ap₂ (λ (l : List ℕ) (n : ℕ). chunkOf form track from l ++ drop n bytes) (sym whole) (chunk-length form track from (byte ∷ payload) (omega arith));
       }
 
   not-false : (t : Bool) → not t ≡ true → t ≡ false
   not-false true e = let z : _≡_ {A = ℕ} 0 1 = cc in absurd (omega arith)
   not-false false e = refl
 
-  tested : (payload : List ℕ) (t u w : Bool) → t ≡ ltb 0x10000 (length payload) → u ≡ standsAt (chunkOf form stream from payload) bytes 0
-      → IsHeld form stream from bytes (cond (not t && u && w) payload [])
+  tested : (payload : List ℕ) (t u w : Bool) → t ≡ ltb 0x10000 (length payload) → u ≡ standsAt (chunkOf form track from payload) bytes 0
+      → IsHeld form track from bytes (cond (not t && u && w) payload [])
   tested payload true u w e f = none-held
   tested payload false false w e f = none-held
   tested payload false true false e f = none-held
   tested payload false true true e f = some-held payload (ltb-false 0x10000 (length payload) (sym e)) (sym f)
 
-  pub held : (going : Bool) → IsHeld form stream from bytes (payloadIn form stream from going bytes)
+  pub held : (going : Bool) → IsHeld form track from bytes (payloadIn form track from going bytes)
   unfolding payloadIn
-  held true = tested (insideOf form bytes) (ltb 0x10000 (length (insideOf form bytes))) (standsAt (chunkOf form stream from (insideOf form bytes)) bytes 0) (not (isEnd form (insideOf form bytes))) refl refl
+  held true = tested (insideOf form bytes) (ltb 0x10000 (length (insideOf form bytes))) (standsAt (chunkOf form track from (insideOf form bytes)) bytes 0) (not (isEnd form (insideOf form bytes))) refl refl
   held false = none-held
 
 -- ---- a stream that does not go on has no more
 
-closed : (form : Form) (stream : Stream) (from : ℕ) (bytes : List ℕ) (going : Bool) → going ≡ false → payloadIn form stream from going bytes ≡ []
+closed : (form : Form) (track : Track) (from : ℕ) (bytes : List ℕ) (going : Bool) → going ≡ false → payloadIn form track from going bytes ≡ []
 unfolding payloadIn
-closed form stream from bytes going e = rw e
+closed form track from bytes going e = rw e
 
 module _ (form : Form) where
   pub read-none : (from : ℕ) (seen heard : Bool) (bytes : List ℕ) → readFrom form 0 from seen heard bytes ≡ nothing
@@ -99,7 +99,7 @@ module _ (form : Form) where
   pub no-audio : (n from : ℕ) (seen heard : Bool) (bytes : List ℕ) → heard ≡ false → readFrom form n from seen heard bytes .audio ≡ []
   no-audio zero from seen heard bytes e = ap (λ (r : Read). r .audio) (read-none from seen heard bytes)
   no-audio (suc n) from seen heard bytes e =
-      let z : heardIn form from seen heard bytes ≡ [] = closed form Audio from (drop (chunkSize form (length (seenIn form from seen bytes))) bytes) heard e in
+      let z : heardIn form from seen heard bytes ≡ [] = closed form (Audio 0) from (drop (chunkSize form (length (seenIn form from seen bytes))) bytes) heard e in
       by-cases n from seen heard bytes (λ r. r .audio ≡ []) refl
       (ap₂ (λ (l m : List ℕ). l ++ m) z
       (no-audio n (from + 0x10000) (goesOn (v n from seen heard bytes)) (goesOn (a n from seen heard bytes))
@@ -122,14 +122,14 @@ module _ (payload more : List ℕ) (few : length payload ≤ 0x10000) (joins : J
       ⊎-elim (λ e. drop-at payload more 0x10000 (eqb-true (length payload) 0x10000 e))
       (λ e. ap (λ (m : List ℕ). drop 0x10000 (payload ++ m)) e ∙ ap (drop 0x10000) (append-nil payload) ∙ drop-of-length-le payload few ∙ sym e) joins
 
-pub next-first : (form : Form) (stream : Stream) (from : ℕ) (payload more : List ℕ) → length payload ≤ 0x10000 → Joins payload more
-    → nextOf form stream from (payload ++ more) ≡ nextOf form stream from payload
+pub next-first : (form : Form) (track : Track) (from : ℕ) (payload more : List ℕ) → length payload ≤ 0x10000 → Joins payload more
+    → nextOf form track from (payload ++ more) ≡ nextOf form track from payload
 unfolding nextOf
-next-first form stream from [] [] few joins = refl
-next-first form stream from [] (m ∷ more) few joins =
+next-first form track from [] [] few joins = refl
+next-first form track from [] (m ∷ more) few joins =
     ⊎-elim (λ (e : goesOn [] ≡ true). let z : _≡_ {A = ℕ} 0 1 = cc in absurd (omega arith)) (λ (e : m ∷ more ≡ []). let z : _≡_ {A = ℕ} 0 1 = cc in absurd (omega arith)) joins
-next-first form stream from (byte ∷ payload) more few joins =
-    ap (chunkOf form stream from) (first-part (byte ∷ payload) more few joins ∙ sym (take-all 0x10000 (byte ∷ payload) few))
+next-first form track from (byte ∷ payload) more few joins =
+    ap (chunkOf form track from) (first-part (byte ∷ payload) more few joins ∙ sym (take-all 0x10000 (byte ∷ payload) few))
 
 -- ---- all turns
 
@@ -142,9 +142,9 @@ turns-none form zero from = refl
 turns-none form (suc n) from = turns-none form n (from + 0x10000)
 
 module _ (form : Form) (n from : ℕ) (v a more others : List ℕ) (fv : length v ≤ 0x10000) (fa : length a ≤ 0x10000) (jv : Joins v more) (ja : Joins a others) where
-  pub turns-more : turnsOf form (suc n) from (v ++ more) (a ++ others) ≡ nextOf form Video from v ++ (nextOf form Audio from a ++ turnsOf form n (from + 0x10000) more others)
+  pub turns-more : turnsOf form (suc n) from (v ++ more) (a ++ others) ≡ nextOf form Video from v ++ (nextOf form (Audio 0) from a ++ turnsOf form n (from + 0x10000) more others)
   unfolding turnsOf
-  turns-more = rw (next-first form Video from v more fv jv, next-first form Audio from a others fa ja, later-part v more fv jv, later-part a others fa ja)
+  turns-more = rw (next-first form Video from v more fv jv, next-first form (Audio 0) from a others fa ja, later-part v more fv jv, later-part a others fa ja)
 
 pub joins : (form : Form) (n from : ℕ) (going heard : Bool) (bytes payload : List ℕ) → going ≡ goesOn payload → Joins payload (readFrom form n from going heard bytes .video)
 joins form n from true heard bytes payload e = inl (sym e)
@@ -164,7 +164,7 @@ module _ (form : Form) where
       let a = heardIn form from seen heard bytes in
       let hv = held form Video from bytes seen in
       let rest = drop (chunkSize form (length v)) bytes in
-      let ha = held form Audio from rest heard in
+      let ha = held form (Audio 0) from rest heard in
       let last = drop (turnSize form v a) bytes in
       let ih = read-stands n (from + 0x10000) (goesOn v) (goesOn a) last in
       let r = readFrom form n (from + 0x10000) (goesOn v) (goesOn a) last in
@@ -173,8 +173,8 @@ module _ (form : Form) where
       (hv .stands
       ∙ ap (λ (l : List ℕ). nextOf form Video from v ++ l)
       (ha .stands
-      ∙ ap (λ (l : List ℕ). nextOf form Audio from a ++ l) (drop-drop (chunkSize form (length a)) (chunkSize form (length v)) bytes ∙ ih ∙ ap (λ (l : List ℕ). turnsOf form n (from + 0x10000) (r .video) (r .audio) ++ l) (drop-drop (r .end) (turnSize form v a) bytes)))
-      ∙ regroup (nextOf form Video from v) (nextOf form Audio from a) (turnsOf form n (from + 0x10000) (r .video) (r .audio)) (drop (turnSize form v a + r .end) bytes)
+      ∙ ap (λ (l : List ℕ). nextOf form (Audio 0) from a ++ l) (drop-drop (chunkSize form (length a)) (chunkSize form (length v)) bytes ∙ ih ∙ ap (λ (l : List ℕ). turnsOf form n (from + 0x10000) (r .video) (r .audio) ++ l) (drop-drop (r .end) (turnSize form v a) bytes)))
+      ∙ regroup (nextOf form Video from v) (nextOf form (Audio 0) from a) (turnsOf form n (from + 0x10000) (r .video) (r .audio)) (drop (turnSize form v a + r .end) bytes)
       ∙ ap (λ (l : List ℕ). l ++ drop (turnSize form v a + r .end) bytes)
       (sym (turns-more form n from v a (r .video) (r .audio) (hv .few) (ha .few) (joins form n (from + 0x10000) (goesOn v) (goesOn a) last v refl) (joins-audio form n (from + 0x10000) (goesOn v) (goesOn a) last a refl))))
 
@@ -186,7 +186,7 @@ module _ (form : Form) where
       let v = seenIn form from seen bytes in
       let a = heardIn form from seen heard bytes in
       let hv = held form Video from bytes seen .few in
-      let ha = held form Audio from (drop (chunkSize form (length v)) bytes) heard .few in
+      let ha = held form (Audio 0) from (drop (chunkSize form (length v)) bytes) heard .few in
       let last = drop (turnSize form v a) bytes in
       let r = readFrom form n (from + 0x10000) (goesOn v) (goesOn a) last in
       let ih = read-few n (from + 0x10000) (goesOn v) (goesOn a) last in
@@ -204,7 +204,7 @@ unfolding turnsOf
 turns-same form zero m from video audio h k i j = rw (empty video (omega arith), empty audio (omega arith)) (sym (turns-none form m from))
 turns-same form (suc n) zero from video audio h k i j = rw (empty video (omega arith), empty audio (omega arith)) (turns-none form (suc n) from)
 turns-same form (suc n) (suc m) from video audio h k i j =
-    ap (λ (l : List ℕ). nextOf form Video from video ++ (nextOf form Audio from audio ++ l))
+    ap (λ (l : List ℕ). nextOf form Video from video ++ (nextOf form (Audio 0) from audio ++ l))
     (turns-same form n m (from + 0x10000) (drop 0x10000 video) (drop 0x10000 audio) (rw length-drop (omega arith)) (rw length-drop (omega arith)) (rw length-drop (omega arith)) (rw length-drop (omega arith)))
 
 -- bytes begin with the chunks of the streams that are read in them

@@ -10,8 +10,8 @@ use lib.Seq.{take-all, length-take-le}
 use lib.Dec.{eqb}
 use Rattle.laws.proofs.Side.{side}
 use Rattle.film_blocks.specs.Blocks.{padding}
-use Rattle.film_plan.specs.declared.Stream.{Stream}
-use Rattle.film_plan.specs.declared.Stream.the-variants.{Video, Audio}
+use Rattle.film_turns.specs.declared.Track.{Track}
+use Rattle.film_turns.specs.declared.Track.the-variants.{Video, Audio}
 use Rattle.film_turns.specs.declared.Form.{Form}
 use Rattle.film_turns.specs.declared.Form.the-variants.{Old, New}
 use Rattle.film_turns.specs.Chunks.{shapeOf, chunkOf, chunkSize}
@@ -59,20 +59,20 @@ module _ (form : Form) where
   unfolding streamSize
   stream-holds n = let l = size-holds form (n % 0x10000) in omega arith
 
-  module _ (stream : Stream) (from : ℕ) where
-    next-some : (all : List ℕ) → 0 < length all → length (chunkOf form stream from (take 0x10000 all)) + streamSize form (length all - 0x10000) ≡ streamSize form (length all)
+  module _ (track : Track) (from : ℕ) where
+    next-some : (all : List ℕ) → 0 < length all → length (chunkOf form track from (take 0x10000 all)) + streamSize form (length all - 0x10000) ≡ streamSize form (length all)
     next-some all some =
         ⊎-elim
         (λ (h : length all < 0x10000).
         let z : length all - 0x10000 ≡ 0 = omega arith in
-        rw (take-all 0x10000 all (omega arith), chunk-length form stream from all some, z, stream-none) (omega (arith, stream-last (length all) h)))
+        rw (take-all 0x10000 all (omega arith), chunk-length form track from all some, z, stream-none) (omega (arith, stream-last (length all) h)))
         (λ (h : 0x10000 ≤ length all).
         let l : length (take 0x10000 all) ≡ 0x10000 = length-take-le 0x10000 all h in
         let p : 0 < length (take 0x10000 all) = rw l (omega arith) in
-        ap (λ (m : ℕ). m + streamSize form (length all - 0x10000)) (chunk-length form stream from (take 0x10000 all) p ∙ ap (chunkSize form) l) ∙ sym (stream-more (length all) h))
+        ap (λ (m : ℕ). m + streamSize form (length all - 0x10000)) (chunk-length form track from (take 0x10000 all) p ∙ ap (chunkSize form) l) ∙ sym (stream-more (length all) h))
         (side (length all) 0x10000)
 
-    next-length : (bytes : List ℕ) → length (nextOf form stream from bytes) + streamSize form (length bytes - 0x10000) ≡ streamSize form (length bytes)
+    next-length : (bytes : List ℕ) → length (nextOf form track from bytes) + streamSize form (length bytes - 0x10000) ≡ streamSize form (length bytes)
     unfolding nextOf
     next-length [] = omega (arith, stream-none)
     next-length (byte ∷ bytes) = next-some (byte ∷ bytes) (omega arith)
@@ -89,9 +89,9 @@ module _ (form : Form) where
       let ih = turns-length n (from + 0x10000) (drop 0x10000 video) (drop 0x10000 audio) (rw length-drop (omega arith)) (rw length-drop (omega arith)) in
       let lv = length-drop 0x10000 video in
       let la = length-drop 0x10000 audio in
-      length-append (nextOf form Video from video) (nextOf form Audio from audio ++ rest)
-      ∙ ap (λ (m : ℕ). length (nextOf form Video from video) + m) (length-append (nextOf form Audio from audio) rest)
-      ∙ omega (arith, rw (lv, la) at ih, next-length Video from video, next-length Audio from audio)
+      length-append (nextOf form Video from video) (nextOf form (Audio 0) from audio ++ rest)
+      ∙ ap (λ (m : ℕ). length (nextOf form Video from video) + m) (length-append (nextOf form (Audio 0) from audio) rest)
+      ∙ omega (arith, rw (lv, la) at ih, next-length Video from video, next-length (Audio 0) from audio)
 
   pub chunks-length : (video audio : List ℕ) → length (chunksOf form video audio) ≡ streamSize form (length video) + streamSize form (length audio)
   chunks-length video audio = turns-length (length video + length audio) 0 video audio (omega arith) (omega arith)

@@ -11,7 +11,7 @@ use lib.Dec.{eqb}
 use borrow.Author.Tests.{ne-eqb, eqb-true}
 use Rattle.laws.proofs.Side.{side}
 use Rattle.signature.specs.Signatures.{contentsEnd, standsAt}
-use Rattle.film_plan.specs.declared.Stream.the-variants.{Video, Audio}
+use Rattle.film_turns.specs.declared.Track.the-variants.{Video, Audio}
 use Rattle.film_turns.specs.declared.Form.{Form}
 use Rattle.film_turns.specs.declared.Seen.{Seen}
 use Rattle.film_turns.specs.declared.Turns.{Turns}
@@ -35,7 +35,7 @@ TurnAnswers form from seen heard bytes r =
     (r ≡ turnBy form (seenIn form from seen bytes) (heardIn form from seen heard bytes)) × (r .video ≤ 0x10000) × (r .audio ≤ 0x10000) × (r .end ≤ length bytes)
 
 pub turn-answers : (form : Form) (from : ℕ) (seen heard : Bool) (bytes rest : List ℕ) (v a : Seen) (middle last : ℕ) (marked : Bool)
-    → Answers form Video from seen bytes v → middle ≡ chunkSize form (v .len) → rest ≡ take (length bytes - middle) (drop middle bytes) → Answers form Audio from heard rest a
+    → Answers form Video from seen bytes v → middle ≡ chunkSize form (v .len) → rest ≡ take (length bytes - middle) (drop middle bytes) → Answers form (Audio 0) from heard rest a
     → last ≡ chunkSize form (a .len) → marked ≡ (v .marked || a .marked)
     → TurnAnswers form from seen heard bytes (record { video = v .len; audio = a .len; end = middle + last; marked = marked })
 turn-answers form from seen heard bytes rest v a middle last marked e f g h k m =

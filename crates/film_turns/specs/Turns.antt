@@ -5,22 +5,22 @@ use mathlib.Core.Bool.{Bool, true, false, cond, _||_}
 use lib.ListN.{length, take, drop}
 use lib.Dec.{eqb}
 use Rattle.signature.specs.Signatures.{contentsEnd, standsAt}
-use Rattle.film_plan.specs.declared.Stream.{Stream}
-use Rattle.film_plan.specs.declared.Stream.the-variants.{Video, Audio}
+use Rattle.film_turns.specs.declared.Track.{Track}
+use Rattle.film_turns.specs.declared.Track.the-variants.{Video, Audio}
 use Rattle.film_turns.specs.declared.Form.{Form}
 use Rattle.film_turns.specs.declared.Turns.{Turns}
 use Rattle.film_turns.specs.Chunks.{chunkOf, chunkSize, payloadIn}
 
 -- the chunk of a stream's next payload of up to 65,536 bytes, if there is one
-unfoldable pub nextOf : Form → Stream → ℕ → List ℕ → List ℕ
-nextOf form stream from [] = []
-nextOf form stream from (byte ∷ bytes) = chunkOf form stream from (take 0x10000 (byte ∷ bytes))
+unfoldable pub nextOf : Form → Track → ℕ → List ℕ → List ℕ
+nextOf form track from [] = []
+nextOf form track from (byte ∷ bytes) = chunkOf form track from (take 0x10000 (byte ∷ bytes))
 
 -- n turns, from a byte of both streams on: the next chunk of the video, and the next of the audio
 unfoldable pub turnsOf : Form → ℕ → ℕ → List ℕ → List ℕ → List ℕ
 turnsOf form zero from video audio = []
 turnsOf form (suc n) from video audio =
-    nextOf form Video from video ++ (nextOf form Audio from audio ++ turnsOf form n (from + 0x10000) (drop 0x10000 video) (drop 0x10000 audio))
+    nextOf form Video from video ++ (nextOf form (Audio 0) from audio ++ turnsOf form n (from + 0x10000) (drop 0x10000 video) (drop 0x10000 audio))
 
 -- all turns: there are no more than bytes
 abbrev pub chunksOf : Form → List ℕ → List ℕ → List ℕ
@@ -51,7 +51,7 @@ abbrev pub seenIn : Form → ℕ → Bool → List ℕ → List ℕ
 seenIn form from seen bytes = payloadIn form Video from seen bytes
 
 abbrev pub heardIn : Form → ℕ → Bool → Bool → List ℕ → List ℕ
-heardIn form from seen heard bytes = payloadIn form Audio from heard (drop (chunkSize form (length (seenIn form from seen bytes))) bytes)
+heardIn form from seen heard bytes = payloadIn form (Audio 0) from heard (drop (chunkSize form (length (seenIn form from seen bytes))) bytes)
 
 -- the size of a turn's chunks
 abbrev pub turnSize : Form → List ℕ → List ℕ → ℕ

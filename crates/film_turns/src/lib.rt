@@ -9,14 +9,18 @@ ghost use mathlib.Core.Bool.{true, _||_};
 ghost use Rattle.part.specs.Parts.{partAt, PartAt};
 ghost use Rattle.signature.specs.Signatures.{standsAt};
 ghost use Rattle.film_blocks.specs.Blocks.{zeros};
-ghost use Rattle.film_turns.specs.Chunks.{lettersIn, shapeOf, headBy, laidBy, chunkSize, lenIn, gapOf, isEnd, payloadIn, seenAs};
+ghost use Rattle.film_turns.specs.Chunks.{lettersIn, numberOf, shapeOf, headBy, laidBy, chunkSize, lenIn, gapOf, isEnd, payloadIn, seenAs};
 ghost use Rattle.film_turns.specs.Turns.{streamSize, seenIn, heardIn, readIn, turnBy, turnsBy};
-use film_plan::Stream;
-
 // The container that chunks lie in: the old builder's, or request 1's.
 pub enum Form {
     Old,
     New,
+}
+
+// A stream of a container: the video, or an audio by its number. Request 1's container has one audio, and says no number.
+pub enum Track {
+    Video,
+    Audio(u32),
 }
 
 // The longest payload.
@@ -31,6 +35,7 @@ pub struct Shape {
     pub size: usize,
     pub sizes: usize,
     pub from: usize,
+    pub number: usize,
     pub gap: usize,
     pub pads: usize,
 }
@@ -50,26 +55,36 @@ pub struct Turns {
 }
 
 // The letters of a stream's chunks.
-fn letters_in(form: Form, stream: Stream) -> usize
-    ensures { λ r. ⌜ r ≡ lettersIn form stream ⌝ }
+fn letters_in(form: Form, track: Track) -> usize
+    ensures { λ r. ⌜ r ≡ lettersIn form track ⌝ }
 {
     match form {
-        Form::Old => match stream {
-            Stream::Video => 0x40534256,
-            Stream::Audio => 0x40534241,
+        Form::Old => match track {
+            Track::Video => 0x40534256,
+            Track::Audio(_) => 0x40534241,
         },
-        Form::New => match stream {
-            Stream::Video => signature::SFV,
-            Stream::Audio => signature::SFA,
+        Form::New => match track {
+            Track::Video => signature::SFV,
+            Track::Audio(_) => signature::SFA,
         },
     }
 }
 
-// What is particular to a chunk of `len` bytes that begins at a byte of its stream.
-pub fn shape_of(form: Form, stream: Stream, from: usize, len: u32) -> Shape
-    ensures { λ r. ⌜ r ≡ shapeOf form stream from len ⌝ }
+// The number that the builder gives a stream.
+fn number_of(track: Track) -> usize
+    ensures { λ r. ⌜ r ≡ numberOf track ⌝ }
 {
-    let letters = letters_in(form, stream);
+    match track {
+        Track::Video => 0,
+        Track::Audio(number) => number as usize,
+    }
+}
+
+// What is particular to a chunk of `len` bytes that begins at a byte of its stream.
+pub fn shape_of(form: Form, track: Track, from: usize, len: u32) -> Shape
+    ensures { λ r. ⌜ r ≡ shapeOf form track from len ⌝ }
+{
+    let letters = letters_in(form, track);
     let len = len as usize;
     match form {
         Form::Old => Shape {
@@ -77,6 +92,7 @@ pub fn shape_of(form: Form, stream: Stream, from: usize, len: u32) -> Shape
             size: 0x18 + len,
             sizes: 0x00010018,
             from,
+            number: number_of(track),
             gap: 0,
             pads: film_blocks::padding(28 + len),
         },
@@ -87,6 +103,7 @@ pub fn shape_of(form: Form, stream: Stream, from: usize, len: u32) -> Shape
                 size: 0x18 + len + pads,
                 sizes: 0x00180000 + pads,
                 from: 0,
+                number: 0,
                 gap: 4,
                 pads,
             }
@@ -102,6 +119,7 @@ pub fn head_by(shape: Shape) -> [u8; 28]
     let size = shape.size;
     let sizes = shape.sizes;
     let from = shape.from;
+    let number = shape.number;
     [
         (letters / 0x1000000 % 256) as u8,
         (letters / 0x10000 % 256) as u8,
@@ -119,10 +137,10 @@ pub fn head_by(shape: Shape) -> [u8; 28]
         (from / 0x10000 % 256) as u8,
         (from / 0x100 % 256) as u8,
         (from % 256) as u8,
-        0,
-        0,
-        0,
-        0,
+        (number / 0x1000000 % 256) as u8,
+        (number / 0x10000 % 256) as u8,
+        (number / 0x100 % 256) as u8,
+        (number % 256) as u8,
         0,
         0,
         0,
@@ -141,7 +159,7 @@ pub fn chunk_size(form: Form, len: u32) -> usize
     if len == 0 {
         return 0;
     }
-    let shape = shape_of(form, Stream::Video, 0, len);
+    let shape = shape_of(form, Track::Video, 0, len);
     28 + shape.gap + len as usize + shape.pads
 }
 
@@ -219,11 +237,11 @@ fn stands_whole(bytes: &[u8], shape: Shape, len: usize) -> bool
 }
 
 // The payload of the chunk that bytes begin with: its length, 0 where there is none.
-fn held_by(bytes: &[u8], form: Form, stream: Stream, from: usize) -> Seen
-    ensures { λ r. ⌜ (r ≡ seenAs (payloadIn form stream from true (now (bytes .entry)))) × (r .len ≤ 0x10000) × (chunkSize form (r .len) ≤ length (now (bytes .entry))) ⌝ }
+fn held_by(bytes: &[u8], form: Form, track: Track, from: usize) -> Seen
+    ensures { λ r. ⌜ (r ≡ seenAs (payloadIn form track from true (now (bytes .entry)))) × (r .len ≤ 0x10000) × (chunkSize form (r .len) ≤ length (now (bytes .entry))) ⌝ }
 {
     let len = len_in(form, bytes);
-    let shape = shape_of(form, stream, from, len as u32);
+    let shape = shape_of(form, track, from, len as u32);
     let start = 28 + shape.gap;
     if bytes.len() < start + len {
         return nothing();
@@ -253,17 +271,17 @@ fn nothing() -> Seen
 }
 
 // The payload of the chunk that bytes begin with, if its stream goes on: its length, 0 where there is none.
-pub fn payload_in(bytes: &[u8], form: Form, stream: Stream, from: usize, going: bool) -> Seen
-    ensures { λ r. ⌜ (r ≡ seenAs (payloadIn form stream from going (now (bytes .entry)))) × (r .len ≤ 0x10000) × (chunkSize form (r .len) ≤ length (now (bytes .entry))) ⌝ }
+pub fn payload_in(bytes: &[u8], form: Form, track: Track, from: usize, going: bool) -> Seen
+    ensures { λ r. ⌜ (r ≡ seenAs (payloadIn form track from going (now (bytes .entry)))) × (r .len ≤ 0x10000) × (chunkSize form (r .len) ≤ length (now (bytes .entry))) ⌝ }
 {
     if going {
-        return held_by(bytes, form, stream, from);
+        return held_by(bytes, form, track, from);
     }
     nothing()
 }
 
 // One or the other.
-fn either(some: bool, other: bool) -> bool
+pub fn either(some: bool, other: bool) -> bool
     ensures { λ r. ⌜ r ≡ (some || other) ⌝ }
 {
     if some {
@@ -276,9 +294,9 @@ fn either(some: bool, other: bool) -> bool
 pub fn turn_in(bytes: &[u8], form: Form, from: usize, seen: bool, heard: bool) -> Turns
     ensures { λ r. ⌜ (r ≡ turnBy form (seenIn form from seen (now (bytes .entry))) (heardIn form from seen heard (now (bytes .entry)))) × (r .video ≤ 0x10000) × (r .audio ≤ 0x10000) × (r .end ≤ length (now (bytes .entry))) ⌝ }
 {
-    let video = payload_in(bytes, form, Stream::Video, from, seen);
+    let video = payload_in(bytes, form, Track::Video, from, seen);
     let middle = chunk_size(form, video.len as u32);
-    let audio = payload_in(&bytes[middle..], form, Stream::Audio, from, heard);
+    let audio = payload_in(&bytes[middle..], form, Track::Audio(0), from, heard);
     let last = chunk_size(form, audio.len as u32);
     Turns {
         video: video.len,

@@ -14,27 +14,26 @@ use Rattle.part.specs.Parts.{partAt}
 use Rattle.signature.specs.Signatures.{CRID, SFV, SFA, sameBytes, standsAt}
 use Rattle.film_blocks.specs.Blocks.{zeros, padding}
 use Rattle.utf8.specs.Utf8.{isUtf8}
-use Rattle.film_plan.specs.declared.Stream.{Stream}
-use Rattle.film_plan.specs.declared.Stream.the-variants.{Video, Audio}
+use Rattle.film_turns.specs.declared.Track.{Track}
+use Rattle.film_turns.specs.declared.Track.the-variants.{Video, Audio}
 use Rattle.film_turns.specs.declared.Form.the-variants.{Old}
 use Rattle.film_turns.specs.declared.Turns.{Turns}
-use Rattle.film_turns.specs.Chunks.{lettersIn, shapeOf, headBy, chunkOf}
 use Rattle.film_turns.specs.Turns.{nextOf, turnsOf, chunksOf, Read, readIn, turnsBy}
 use Rattle.film_turns.proofs.FrontLaws.{front, stands-front, front-self, stands-then, part-stands, same-front}
 use Rattle.film_turns.proofs.ReadLaws.{no-audio, read-whole}
 use Rattle.old_film.specs.declared.OldFilm.{OldFilm}
 use Rattle.old_film.specs.declared.Found.{Found}
 use Rattle.old_film.specs.declared.Found.the-variants.{Film, Foreign}
-use Rattle.old_film.specs.Blocks.{SBV, SBA, oldHead, tableBlock, oldChunk, endBlock}
+use Rattle.old_film.specs.Blocks.{oldHead, tableBlock, endBlock}
 use Rattle.old_film.specs.Tables.{nameStart, oldNames, oldVideo, oldAudio}
-use Rattle.old_film.specs.Films.{audioBlocks, oldNext, oldAudios, oldTurns, bytesIn, oldEnds, oldBytes}
+use Rattle.old_film.specs.Films.{audioBlocks, oldAudios, oldTurns, bytesIn, oldEnds, oldBytes}
 use Rattle.old_film.specs.Finding.{Parts, nameIn, nameSize, audioSize, partsFrom, partsOf, audiosOf, rebuilt, foundIn}
 
 -- ---- the first block
 
-head-length : (letters size first second : ℕ) → length (oldHead letters size first second) ≡ 28
+head-length : (letters size : ℕ) → length (oldHead letters size) ≡ 28
 unfolding oldHead
-head-length letters size first second = refl
+head-length letters size = refl
 
 zeros-more : (p : ℕ) → zeros (1 + p) ≡ 0 ∷ zeros p
 zeros-more p = let e : 1 + p ≡ suc p = omega arith in ap zeros e
@@ -44,7 +43,7 @@ module _ (name : List ℕ) where
   n = length name
 
   abbrev pub nameHead : List ℕ
-  nameHead = oldHead CRID (89 + n) 0 0 ++ nameStart n
+  nameHead = oldHead CRID (89 + n) ++ nameStart n
 
   abbrev pub nameTail : List ℕ
   nameTail = zeros (1 + padding (97 + n))
@@ -54,18 +53,18 @@ module _ (name : List ℕ) where
   names-length = length-append (nameStart n) (name ++ (0 ∷ [])) ∙ ap (λ (m : ℕ). 68 + m) (length-append name (0 ∷ [])) ∙ omega arith
 
   name-head-length : length nameHead ≡ 96
-  name-head-length = length-append (oldHead CRID (89 + n) 0 0) (nameStart n) ∙ ap (λ (m : ℕ). m + 68) (head-length CRID (89 + n) 0 0)
+  name-head-length = length-append (oldHead CRID (89 + n)) (nameStart n) ∙ ap (λ (m : ℕ). m + 68) (head-length CRID (89 + n))
 
-  sized : (size m : ℕ) → size ≡ 89 + n → m ≡ 97 + n → (oldHead CRID size 0 0 ++ oldNames name) ++ zeros (padding m) ≡ nameHead ++ (name ++ nameTail)
+  sized : (size m : ℕ) → size ≡ 89 + n → m ≡ 97 + n → (oldHead CRID size ++ oldNames name) ++ zeros (padding m) ≡ nameHead ++ (name ++ nameTail)
   unfolding oldNames
   sized size m e f = rw (e, f, zeros-more (padding (97 + n))) (simp append-assoc)
 
   name-block : tableBlock CRID (oldNames name) ≡ nameHead ++ (name ++ nameTail)
   unfolding tableBlock
   name-block =
-      sized (20 + length (oldNames name)) (length (oldHead CRID (20 + length (oldNames name)) 0 0 ++ oldNames name)) (omega (arith, names-length))
-      (length-append (oldHead CRID (20 + length (oldNames name)) 0 0) (oldNames name)
-      ∙ omega (arith, names-length, head-length CRID (20 + length (oldNames name)) 0 0))
+      sized (20 + length (oldNames name)) (length (oldHead CRID (20 + length (oldNames name)) ++ oldNames name)) (omega (arith, names-length))
+      (length-append (oldHead CRID (20 + length (oldNames name))) (oldNames name)
+      ∙ omega (arith, names-length, head-length CRID (20 + length (oldNames name))))
 
   pub name-block-length : length (tableBlock CRID (oldNames name)) ≡ nameSize n
   name-block-length =
@@ -110,36 +109,17 @@ ends-some false = omega arith
 
 -- ---- the chunks
 
-module _ (stream : Stream) (from : ℕ) (payload : List ℕ) where
-  abbrev head : List ℕ
-  head = oldHead (lettersIn Old stream) (0x18 + length payload) from 0
-
-  chunk-laid : (m : ℕ) → m ≡ 28 + length payload → (head ++ payload) ++ zeros (padding m) ≡ chunkOf Old stream from payload
-  unfolding chunkOf shapeOf headBy oldHead
-  chunk-laid m e = ap (λ (k : ℕ). (head ++ payload) ++ zeros (padding k)) e ∙ append-assoc head payload (zeros (padding (28 + length payload)))
-
-  chunk-same : oldChunk (lettersIn Old stream) from 0 payload ≡ chunkOf Old stream from payload
-  unfolding oldChunk
-  chunk-same =
-      chunk-laid (length (head ++ payload))
-      (length-append head payload ∙ ap (λ (k : ℕ). k + length payload) (head-length (lettersIn Old stream) (0x18 + length payload) from 0))
-
-next-same : (stream : Stream) (from : ℕ) (bytes : List ℕ) → oldNext (lettersIn Old stream) from 0 bytes ≡ nextOf Old stream from bytes
-unfolding oldNext nextOf
-next-same stream from [] = refl
-next-same stream from (byte ∷ bytes) = chunk-same stream from (take 0x10000 (byte ∷ bytes))
-
 one-same : (k from : ℕ) (video audio : List ℕ) → oldTurns k from video (audio ∷ []) ≡ turnsOf Old k from video audio
 unfolding oldTurns oldAudios turnsOf
 one-same zero from video audio = refl
 one-same (suc k) from video audio =
-    ap₂ (λ (x y : List ℕ). x ++ y) (next-same Video from video)
-    (ap₂ (λ (x y : List ℕ). x ++ y) (append-nil (oldNext SBA from 0 audio) ∙ next-same Audio from audio) (one-same k (from + 0x10000) (drop 0x10000 video) (drop 0x10000 audio)))
+    ap (λ (y : List ℕ). nextOf Old Video from video ++ y)
+    (ap₂ (λ (x y : List ℕ). x ++ y) (append-nil (nextOf Old (Audio 0) from audio)) (one-same k (from + 0x10000) (drop 0x10000 video) (drop 0x10000 audio)))
 
 none-same : (k from : ℕ) (video : List ℕ) → oldTurns k from video [] ≡ turnsOf Old k from video []
 unfolding oldTurns oldAudios turnsOf nextOf
 none-same zero from video = refl
-none-same (suc k) from video = ap₂ (λ (x y : List ℕ). x ++ y) (next-same Video from video) (none-same k (from + 0x10000) (drop 0x10000 video))
+none-same (suc k) from video = ap (λ (y : List ℕ). nextOf Old Video from video ++ y) (none-same k (from + 0x10000) (drop 0x10000 video))
 
 pub turns-same-old : (audio : Bool) (video sound : List ℕ) → (audio ≡ false → sound ≡ [])
     → oldTurns (length video + bytesIn (audiosOf audio sound)) 0 video (audiosOf audio sound) ≡ chunksOf Old video sound

@@ -1,9 +1,12 @@
 -- Rules O4 to O6: the container of the old builder, whole.
 use Prim.Native.Nat.{ℕ, zero, suc, _+_}
 use mathlib.Core.List.{List, [], _∷_, _++_, map}
-use lib.ListN.{length, take, drop}
+use lib.ListN.{length, drop}
 use Rattle.signature.specs.Signatures.{CRID, SFV, SFA}
-use Rattle.old_film.specs.Blocks.{SBV, SBA, tableBlock, oldChunk, endBlock}
+use Rattle.film_turns.specs.declared.Form.the-variants.{Old}
+use Rattle.film_turns.specs.declared.Track.the-variants.{Video, Audio}
+use Rattle.film_turns.specs.Turns.{nextOf}
+use Rattle.old_film.specs.Blocks.{tableBlock, endBlock}
 use Rattle.old_film.specs.Tables.{oldNames, oldVideo, oldAudio}
 
 -- a block for each audio, from a number on
@@ -11,20 +14,16 @@ unfoldable pub audioBlocks : ℕ → List (List ℕ) → List ℕ
 audioBlocks number [] = []
 audioBlocks number (audio ∷ audios) = tableBlock SFA (oldAudio number) ++ audioBlocks (number + 1) audios
 
--- the chunk of a stream's next payload of up to 65,536 bytes, if there is one
-unfoldable pub oldNext : ℕ → ℕ → ℕ → List ℕ → List ℕ
-oldNext letters from number [] = []
-oldNext letters from number (byte ∷ bytes) = oldChunk letters from number (take 0x10000 (byte ∷ bytes))
-
+-- the next chunk of each audio, from a number on
 unfoldable pub oldAudios : ℕ → ℕ → List (List ℕ) → List ℕ
 oldAudios from number [] = []
-oldAudios from number (audio ∷ audios) = oldNext SBA from number audio ++ oldAudios from (number + 1) audios
+oldAudios from number (audio ∷ audios) = nextOf Old (Audio number) from audio ++ oldAudios from (number + 1) audios
 
 -- n turns: the next chunk of the video, and that of each audio
 unfoldable pub oldTurns : ℕ → ℕ → List ℕ → List (List ℕ) → List ℕ
 oldTurns zero from video audios = []
 oldTurns (suc n) from video audios =
-    oldNext SBV from 0 video ++ (oldAudios from 0 audios ++ oldTurns n (from + 0x10000) (drop 0x10000 video) (map (drop 0x10000) audios))
+    nextOf Old Video from video ++ (oldAudios from 0 audios ++ oldTurns n (from + 0x10000) (drop 0x10000 video) (map (drop 0x10000) audios))
 
 -- how many bytes the audios have
 unfoldable pub bytesIn : List (List ℕ) → ℕ

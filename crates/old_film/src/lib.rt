@@ -32,7 +32,7 @@ pub enum Found {
 }
 
 // Where a name stands.
-const NAME: usize = 96;
+pub const NAME: usize = 96;
 
 // What the first block's size is more than its name.
 const MORE: usize = 89;
@@ -42,7 +42,7 @@ const VIDEO: usize = 0x80;
 
 // The first block up to a name of `len` bytes.
 pub fn name_head(len: u32) -> [u8; 96]
-    ensures { λ r. ⌜ r ≡ oldHead CRID (89 + len) 0 0 ++ nameStart len ⌝ }
+    ensures { λ r. ⌜ r ≡ oldHead CRID (89 + len) ++ nameStart len ⌝ }
 {
     let size = 89 + len as usize;
     let table = 61 + len as usize;
@@ -326,7 +326,7 @@ fn tail(bytes: &[u8], place: usize) -> &[u8]
 // Whether the first block stands at the front, around a name of `len` bytes.
 fn name_stands(container: &[u8], len: usize) -> bool
     requires { ⌜ len < 2 ^ 32 ⌝ }
-    ensures { λ r. ⌜ r ≡ (standsAt (oldHead CRID (89 + len) 0 0 ++ nameStart len) (now (container .entry)) 0 && standsAt (zeros (1 + padding (97 + len))) (now (container .entry)) (96 + len)) ⌝ }
+    ensures { λ r. ⌜ r ≡ (standsAt (oldHead CRID (89 + len) ++ nameStart len) (now (container .entry)) 0 && standsAt (zeros (1 + padding (97 + len))) (now (container .entry)) (96 + len)) ⌝ }
 {
     let head = name_head(len as u32);
     if signature::stands_at(&head, container, 0) {
@@ -375,7 +375,7 @@ fn is_rebuilt(
     audio: bool,
 ) -> bool
     requires { ⌜ name < 2 ^ 32 ⌝ }
-    ensures { λ r. ⌜ r ≡ (standsAt (oldHead CRID (89 + name) 0 0 ++ nameStart name) (now (container .entry)) 0 && standsAt (zeros (1 + padding (97 + name))) (now (container .entry)) (96 + name) && standsAt (tableBlock SFV (oldVideo video)) (now (container .entry)) first && (standsAt (oldEnds (audiosOf audio [])) (now (container .entry)) end && eqb (length (now (container .entry)) - end) (length (oldEnds (audiosOf audio []))))) ⌝ }
+    ensures { λ r. ⌜ r ≡ (standsAt (oldHead CRID (89 + name) ++ nameStart name) (now (container .entry)) 0 && standsAt (zeros (1 + padding (97 + name))) (now (container .entry)) (96 + name) && standsAt (tableBlock SFV (oldVideo video)) (now (container .entry)) first && (standsAt (oldEnds (audiosOf audio [])) (now (container .entry)) end && eqb (length (now (container .entry)) - end) (length (oldEnds (audiosOf audio []))))) ⌝ }
 {
     if name_stands(container, name) {
         let block = video_block(video);

@@ -23,28 +23,28 @@ put-requires c κs =
     let s = c .before .before .before in
     let a = s .before .before .before .args in
     let room = s .before .before .before .pre .0 in
-    rw (c .before .before .head-by .ensures) (head-fits (a .form) (a .stream) (a .from) (a .payload .now) (a .out .now) (a .at) room (s .shape-of .result) (s .shape-of .ensures))
+    rw (c .before .before .head-by .ensures) (head-fits (a .form) (a .track) (a .from) (a .payload .now) (a .out .now) (a .at) room (s .shape-of .result) (s .shape-of .ensures))
 
 put-zeros-requires : tie.Need-put-zeros-requires
 put-zeros-requires c κs =
     let s = c .before .before .before .before .before .before .before in
     let a = s .before .before .before .args in
     let room = s .before .before .before .pre .0 in
-    (gap-has-room (a .form) (a .stream) (a .from) (a .payload .now) (a .out .now) (a .at) room (s .shape-of .result) (s .shape-of .ensures) (rw (c .before .before .before .before .before .before .head-by .ensures) at (c .before .before .before .put .ensures)), omega (arith, shape-fits _ _ _ _ _ (s .shape-of .ensures)))
+    (gap-has-room (a .form) (a .track) (a .from) (a .payload .now) (a .out .now) (a .at) room (s .shape-of .result) (s .shape-of .ensures) (rw (c .before .before .before .before .before .before .head-by .ensures) at (c .before .before .before .put .ensures)), omega (arith, shape-fits _ _ _ _ _ (s .shape-of .ensures)))
 
 put-requires-2 : tie.Need-put-requires-2
 put-requires-2 c κs =
     let s = c .before .before .before .before .before .before .before .before .before .before .before in
     let a = s .before .before .before .args in
     let room = s .before .before .before .pre .0 in
-    payload-fits (a .form) (a .stream) (a .from) (a .payload .now) (a .out .now) (a .at) room (s .shape-of .result) (s .shape-of .ensures) (rw (c .before .before .before .before .before .before .before .before .before .before .head-by .ensures) at (c .before .before .before .before .before .before .before .put .ensures)) (c .before .before .before .put-zeros .ensures)
+    payload-fits (a .form) (a .track) (a .from) (a .payload .now) (a .out .now) (a .at) room (s .shape-of .result) (s .shape-of .ensures) (rw (c .before .before .before .before .before .before .before .before .before .before .head-by .ensures) at (c .before .before .before .before .before .before .before .put .ensures)) (c .before .before .before .put-zeros .ensures)
 
 put-zeros-requires-2 : tie.Need-put-zeros-requires-2
 put-zeros-requires-2 c κs =
     let s = c .before .before .before .before .before .before .before .before .before .before .before .before .before .before .before in
     let a = s .before .before .before .args in
     let room = s .before .before .before .pre .0 in
-    (pads-have-room (a .form) (a .stream) (a .from) (a .payload .now) (a .out .now) (a .at) room (s .shape-of .result) (s .shape-of .ensures) (rw (c .before .before .before .before .before .before .before .before .before .before .before .before .before .before .head-by .ensures) at (c .before .before .before .before .before .before .before .before .before .before .before .put .ensures)) (c .before .before .before .before .before .before .before .put-zeros .ensures) (c .before .before .before .put2 .ensures), omega (arith, shape-fits _ _ _ _ _ (s .shape-of .ensures)))
+    (pads-have-room (a .form) (a .track) (a .from) (a .payload .now) (a .out .now) (a .at) room (s .shape-of .result) (s .shape-of .ensures) (rw (c .before .before .before .before .before .before .before .before .before .before .before .before .before .before .head-by .ensures) at (c .before .before .before .before .before .before .before .before .before .before .before .put .ensures)) (c .before .before .before .before .before .before .before .put-zeros .ensures) (c .before .before .before .put2 .ensures), omega (arith, shape-fits _ _ _ _ _ (s .shape-of .ensures)))
 
 same-length : tie.Need-same-length
 same-length c = search needs
@@ -54,7 +54,7 @@ returns c =
     let s = c .before .before .before .before .before .before .before .before .before .before .before .before .before .before .before .before .before .before in
     let a = s .before .before .before .args in
     let room = s .before .before .before .pre .0 in
-    chunk-put (a .form) (a .stream) (a .from) (a .payload .now) (a .out .now) (a .at) room (s .shape-of .result) (s .shape-of .ensures) (rw (c .before .before .before .before .before .before .before .before .before .before .before .before .before .before .before .before .before .head-by .ensures) at (c .before .before .before .before .before .before .before .before .before .before .before .before .before .before .put .ensures)) (c .before .before .before .before .before .before .before .before .before .before .put-zeros .ensures) (c .before .before .before .before .before .before .put2 .ensures) (c .before .before .put-zeros2 .ensures)
+    chunk-put (a .form) (a .track) (a .from) (a .payload .now) (a .out .now) (a .at) room (s .shape-of .result) (s .shape-of .ensures) (rw (c .before .before .before .before .before .before .before .before .before .before .before .before .before .before .before .before .before .head-by .ensures) at (c .before .before .before .before .before .before .before .before .before .before .before .before .before .before .put .ensures)) (c .before .before .before .before .before .before .before .before .before .before .put-zeros .ensures) (c .before .before .before .before .before .before .put2 .ensures) (c .before .before .put-zeros2 .ensures)
 
 pub put-chunk-spec : {M : Type 1} → statement M
 put-chunk-spec =

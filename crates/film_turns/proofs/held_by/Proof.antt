@@ -30,7 +30,7 @@ returns c =
     let s = c .before .before .before in
     let l = s .before in
     let a = l .before .before .args in
-    none-answers (a .form) (a .stream) (a .from) true (a .bytes .now) _ (not-there (a .form) (a .stream) (a .from) (a .bytes .now) (l .len-in .result) (l .len-in .ensures .0) (s .shape-of .result) (s .shape-of .ensures) (c .before .if1 .taken)) (c .nothing .ensures)
+    none-answers (a .form) (a .track) (a .from) true (a .bytes .now) _ (not-there (a .form) (a .track) (a .from) (a .bytes .now) (l .len-in .result) (l .len-in .ensures .0) (s .shape-of .result) (s .shape-of .ensures) (c .before .if1 .taken)) (c .nothing .ensures)
 
 nothing-requires-2 : tie.Need-nothing-requires-2
 nothing-requires-2 c κs = search needs
@@ -40,7 +40,7 @@ returns-2 c =
     let s = c .before .before .before .before in
     let l = s .before in
     let a = l .before .before .args in
-    none-answers (a .form) (a .stream) (a .from) true (a .bytes .now) _ (too-long (a .form) (a .stream) (a .from) (a .bytes .now) (l .len-in .result) (l .len-in .ensures .0) (s .shape-of .result) (s .shape-of .ensures) (c .before .before .if1 .left) (c .before .if2 .taken)) (c .nothing2 .ensures)
+    none-answers (a .form) (a .track) (a .from) true (a .bytes .now) _ (too-long (a .form) (a .track) (a .from) (a .bytes .now) (l .len-in .result) (l .len-in .ensures .0) (s .shape-of .result) (s .shape-of .ensures) (c .before .before .if1 .left) (c .before .if2 .taken)) (c .nothing2 .ensures)
 
 part-at-requires : tie.Need-part-at-requires
 part-at-requires c κs = search needs
@@ -56,7 +56,7 @@ returns-3 c =
     let s = c .before .before .before .before .before .before .before in
     let l = s .before in
     let a = l .before .before .args in
-    none-answers (a .form) (a .stream) (a .from) true (a .bytes .now) _ (marks-end (a .form) (a .stream) (a .from) (a .bytes .now) (l .len-in .result) (l .len-in .ensures .0) (s .shape-of .result) (s .shape-of .ensures) (c .before .before .before .before .before .if1 .left) _ (c .before .before .before .part-at .ensures .2) (sym (c .before .before .is-end .ensures) ∙ c .before .if3 .taken)) (c .nothing3 .ensures)
+    none-answers (a .form) (a .track) (a .from) true (a .bytes .now) _ (marks-end (a .form) (a .track) (a .from) (a .bytes .now) (l .len-in .result) (l .len-in .ensures .0) (s .shape-of .result) (s .shape-of .ensures) (c .before .before .before .before .before .if1 .left) _ (c .before .before .before .part-at .ensures .2) (sym (c .before .before .is-end .ensures) ∙ c .before .if3 .taken)) (c .nothing3 .ensures)
 
 stands-whole-requires : tie.Need-stands-whole-requires
 stands-whole-requires c κs =
@@ -75,7 +75,7 @@ returns-4 c =
     let s = c .before .before .before .before .before .before .before .before .before .before in
     let l = s .before in
     let a = l .before .before .args in
-    some-answers (a .form) (a .stream) (a .from) (a .bytes .now) (l .len-in .result) (l .len-in .ensures .0) (s .shape-of .result) (s .shape-of .ensures) (c .before .before .before .before .before .before .before .before .if1 .left) _ (c .before .before .before .before .before .before .part-at .ensures .2) (c .before .before .before .before .before .before .before .if2 .left) (sym (c .before .before .before .stands-whole .ensures) ∙ c .before .before .if4 .taken) (sym (c .before .before .before .before .before .is-end .ensures) ∙ c .before .before .before .before .if3 .left) _ (c .stands-at .ensures)
+    some-answers (a .form) (a .track) (a .from) (a .bytes .now) (l .len-in .result) (l .len-in .ensures .0) (s .shape-of .result) (s .shape-of .ensures) (c .before .before .before .before .before .before .before .before .if1 .left) _ (c .before .before .before .before .before .before .part-at .ensures .2) (c .before .before .before .before .before .before .before .if2 .left) (sym (c .before .before .before .stands-whole .ensures) ∙ c .before .before .if4 .taken) (sym (c .before .before .before .before .before .is-end .ensures) ∙ c .before .before .before .before .if3 .left) _ (c .stands-at .ensures)
 
 nothing-requires-4 : tie.Need-nothing-requires-4
 nothing-requires-4 c κs = search needs
@@ -85,7 +85,7 @@ returns-5 c =
     let s = c .before .before .before .before .before .before .before .before .before in
     let l = s .before in
     let a = l .before .before .args in
-    none-answers (a .form) (a .stream) (a .from) true (a .bytes .now) _ (another (a .form) (a .stream) (a .from) (a .bytes .now) (l .len-in .result) (l .len-in .ensures .0) (s .shape-of .result) (s .shape-of .ensures) (c .before .before .before .before .before .before .before .if1 .left) (sym (c .before .before .stands-whole .ensures) ∙ c .before .if4 .left)) (c .nothing4 .ensures)
+    none-answers (a .form) (a .track) (a .from) true (a .bytes .now) _ (another (a .form) (a .track) (a .from) (a .bytes .now) (l .len-in .result) (l .len-in .ensures .0) (s .shape-of .result) (s .shape-of .ensures) (c .before .before .before .before .before .before .before .if1 .left) (sym (c .before .before .stands-whole .ensures) ∙ c .before .if4 .left)) (c .nothing4 .ensures)
 
 pub held-by-spec : {M : Type 1} → statement M
 held-by-spec =

@@ -18,7 +18,7 @@ returns-2 : tie.Need-returns-2
 unfolding payloadIn
 returns-2 c =
     let start = c .before .before .before in
-    none-answers (start .args .form) (start .args .stream) (start .args .from) (start .args .going) (start .args .bytes .now) _ (rw (c .before .if1 .left)) (c .nothing .ensures)
+    none-answers (start .args .form) (start .args .track) (start .args .from) (start .args .going) (start .args .bytes .now) _ (rw (c .before .if1 .left)) (c .nothing .ensures)
 
 pub payload-in-spec : {M : Type 1} → statement M
 payload-in-spec = tie.close (tie.spec held-by-requires returns nothing-requires returns-2)

@@ -13,6 +13,9 @@ enum-told c = search needs
 add-t9 : tie.Need-add-t9
 add-t9 c = search needs
 
+number-of-requires : tie.Need-number-of-requires
+number-of-requires c κs = search needs
+
 add-padding : tie.Need-add-padding
 add-padding c = search needs
 
@@ -25,18 +28,18 @@ enum-told-2 c = search needs
 padding-requires-2 : tie.Need-padding-requires-2
 padding-requires-2 c κs = search needs
 
-add-t12 : tie.Need-add-t12
-add-t12 c = search needs
-
 add-t13 : tie.Need-add-t13
 add-t13 c = search needs
 
 add-t14 : tie.Need-add-t14
 add-t14 c = search needs
 
+add-t15 : tie.Need-add-t15
+add-t15 c = search needs
+
 returns : tie.Need-returns
 unfolding shapeOf
-returns c = rw (c .before .before .before .letters-in .ensures, c .padding .ensures, c .before .enum-told .given .1)
+returns c = rw (c .before .before .before .before .letters-in .ensures, c .before .number-of .ensures, c .padding .ensures, c .before .before .enum-told .given .1)
 
 returns-2 : tie.Need-returns-2
 unfolding shapeOf
@@ -49,12 +52,13 @@ shape-of-spec =
     letters-in-requires
     enum-told
     add-t9
+    number-of-requires
     add-padding
     padding-requires
     enum-told-2
     padding-requires-2
-    add-t12
     add-t13
     add-t14
+    add-t15
     returns
     returns-2)
