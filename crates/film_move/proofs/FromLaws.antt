@@ -29,7 +29,7 @@ use Rattle.film_blocks.specs.Blocks.{headOf, blockOf}
 use Rattle.film_blocks.specs.Tables.{markerOf}
 use Rattle.film_plan.specs.declared.Packing.{Packing}
 use Rattle.film_plan.specs.Payloads.{payloadsOf}
-use Rattle.film_plan.specs.Films.{bytesOf, inEach, headerBlocks, endBlocks, filmBytes}
+use Rattle.film_plan.specs.Films.{bytesOf, inEach, headerBlocks, endBlocks, audioIn, filmBytes}
 use Rattle.film_plan.specs.Planning.{anyMarked, isGiven, refusedBy, plannedOf}
 use Rattle.film_plan.proofs.PlanLaws.{accepted}
 use Rattle.write.specs.Writing.{WritingOf, Writing}
@@ -123,6 +123,10 @@ module _ (name : List ℕ) (packing : Packing) (k : packing .key ≡ Absent) whe
   pub header-size : length (filmBytes name [] [] packing) ≡ length header + length ends
   header-size = ap length frame-laid ∙ length-append header ends
 
+  -- and where it ends, which is where its ends begin there
+  pub start-is : (n size : ℕ) → plannedOf name [] [] packing ≡ Size n → size ≡ length ends → (size ≤ n) × (n - size ≡ length header)
+  start-is n size e s = let a = accepted name [] [] packing n e in (omega (arith, a .sized, header-size), omega (arith, a .sized, header-size))
+
   module _ (video audio : List ℕ) where
     abbrev whole : ℕ
     whole = length (filmBytes name video audio packing)
@@ -186,15 +190,15 @@ module _ (name : List ℕ) (packing : Packing) (k : packing .key ≡ Absent) whe
             ap length (film-laid video audio) ∙ length-append header (chunksOf New video audio ++ ends)
             ∙ omega (arith, length-append (chunksOf New video audio) ends, ap length m)
 
-        pub moved-fits : start + length moved ≤ length out₁
-        moved-fits = omega (arith, ap length framed, length-sets out 0 (header ++ ends), laid-length, s)
+        turns-room : start + length moved ≤ length out₁
+        turns-room = omega (arith, ap length framed, length-sets out 0 (header ++ ends), laid-length, s)
 
         module _ {out₂ : List ℕ} {at : ℕ} (turned : Put moved out₁ start out₂ at) where
-          pub ends-fit : at + length ends ≤ length out₂
-          ends-fit = omega (arith, ap length framed, length-sets out 0 (header ++ ends), laid-length, s, turned .ends, ap length (turned .holds), length-sets out₁ start moved)
+          ends-room : at + length ends ≤ length out₂
+          ends-room = omega (arith, ap length framed, length-sets out 0 (header ++ ends), laid-length, s, turned .ends, ap length (turned .holds), length-sets out₁ start moved)
 
-          pub film-moved : {out₃ : List ℕ} {end : ℕ} → Put ends out₂ at out₃ end → out₃ ≡ sets out 0 (filmBytes name video audio packing)
-          film-moved ended =
+          all-put : {out₃ : List ℕ} {end : ℕ} → Put ends out₂ at out₃ end → out₃ ≡ sets out 0 (filmBytes name video audio packing)
+          all-put ended =
               put-then turned ended .holds ∙ ap₂ (λ (o : List ℕ) (n : ℕ). sets o n (moved ++ ends)) framed s
               ∙ ap (λ (l : List ℕ). sets (sets out 0 (header ++ ends)) (length header) (l ++ ends)) m
               ∙ sets-between out header ends (chunksOf New video audio) (rw (film-laid video audio) at room) ∙ ap (sets out 0) (sym (film-laid video audio))
@@ -267,6 +271,48 @@ module _ (c : List ℕ) where
         subst (λ (r : Read). length (r .video) + length (r .audio) ≤ length (drop (P .start) c)) (sym read-is) (read-fits Old (P .audio) (drop (P .start) c)) in
         let l = length-drop (P .start) c in
         (omega (arith, f, l, h, video-is), omega (arith, f, l, h, audio-is))
+
+    -- ---- what is planned, by what is planned without a payload
+
+    module _ (packing : Packing) where
+      pub plan-named : (name : List ℕ) (r : Written) → name ≡ partAt c 96 (film .name) → r ≡ plannedOf name [] (audioIn packing []) packing → plannedOf (P .name) [] [] packing ≡ r
+      plan-named name r n f = sym (f ∙ ap₂ (λ (l a : List ℕ). plannedOf l [] a packing) (n ∙ name-part) (none-either (packing .audio)))
+
+      pub plan-moved : packing .key ≡ Absent → (frame : ℕ) → plannedOf (P .name) [] [] packing ≡ Size frame
+          → plannedAs (frame + (streamSize New (film .turns .video) + streamSize New (film .turns .audio))) (film .turns .marked)
+          ≡ plannedOf (P .name) (P .read .video) (P .read .audio) packing
+      plan-moved k frame f = rw (video-is, audio-is) (plan-sized (P .name) packing k (P .read .video) (P .read .audio) frame (film .turns .marked) f marked-is)
+
+    -- ---- the film moved: what is written without a payload, its turns from the end of the header on, and its ends after them
+
+    module _ (packing : Packing) (k : packing .key ≡ Absent) (n : ℕ) (f : plannedOf (P .name) [] [] packing ≡ Size n) (out : List ℕ)
+        (room : length (filmBytes (P .name) (P .read .video) (P .read .audio) packing) ≤ length out) {name : List ℕ} (g : name ≡ partAt c 96 (film .name)) {r : Written} {out₁ : List ℕ}
+        (w : Writing name [] [] packing out r out₁) {size : ℕ} (s : size ≡ length (bytesOf (endBlocks packing))) {left : ℕ} (l : left ≡ length c - film .start) {chunks : List ℕ}
+        (h : chunks ≡ partAt c (film .start) left) where
+      named : Writing (P .name) [] [] packing out r out₁
+      named = subst (λ (l : List ℕ). Writing l [] [] packing out r out₁) (g ∙ name-part) w
+
+      framed : out₁ ≡ sets out 0 (header (P .name) packing k ++ ends (P .name) packing k)
+      framed = frame-put (P .name) packing k (P .read .video) (P .read .audio) out out₁ room n r f named
+
+      starts : n - size ≡ length (header (P .name) packing k)
+      starts = start-is (P .name) packing k n size f s .1
+
+      abbrev moved : List ℕ
+      moved = movedFrom Old New (film .audio) chunks
+
+      same : moved ≡ chunksOf New (P .read .video) (P .read .audio)
+      same = moved-is chunks (h ∙ ap (partAt c (film .start)) l)
+
+      pub moved-fits : n - size + length moved ≤ length out₁
+      moved-fits = turns-room (P .name) packing k (P .read .video) (P .read .audio) out out₁ room framed (n - size) starts moved same
+
+      module _ {out₂ : List ℕ} {at : ℕ} (turned : Put moved out₁ (n - size) out₂ at) where
+        pub ends-fit : at + length (bytesOf (endBlocks packing)) ≤ length out₂
+        ends-fit = ends-room (P .name) packing k (P .read .video) (P .read .audio) out out₁ room framed (n - size) starts moved same turned
+
+        pub film-moved : {out₃ : List ℕ} {end : ℕ} → Put (bytesOf (endBlocks packing)) out₂ at out₃ end → out₃ ≡ sets out 0 (filmBytes (P .name) (P .read .video) (P .read .audio) packing)
+        film-moved ended = all-put (P .name) packing k (P .read .video) (P .read .audio) out out₁ room framed (n - size) starts moved same turned ended
 
   -- ---- what is answered
 

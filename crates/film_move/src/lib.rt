@@ -1,23 +1,31 @@
 // Moves a film between the old builder's container and request 1's. Payloads travel as stored, so no key is needed. Rules O.
 ghost use mathlib.Core.Path.{_≡_};
+ghost use mathlib.Core.List.{[]};
 ghost use Prim.Native.Nat.{_+_, _≤_};
 ghost use lib.ListN.{length};
+ghost use lib.Seq.{sets};
 ghost use Rattle.laws.specs.Outputs.{Put};
 ghost use Rattle.signature.specs.Signatures.{contentsEnd};
+ghost use Rattle.unmasking.specs.declared.Key.the-variants as key;
+ghost use Rattle.written.specs.declared.Written.the-variants as written;
 ghost use Rattle.film_blocks.specs.Blocks.{zeros};
 ghost use Rattle.film_blocks.specs.Tables.{markerOf};
-ghost use Rattle.film_plan.specs.Films.{bytesOf, inEach};
-ghost use Rattle.film_plan.specs.Planning.{refusedBy};
+ghost use Rattle.film_plan.specs.Films.{bytesOf, inEach, filmBytes};
+ghost use Rattle.film_plan.specs.Planning.{refusedBy, plannedOf};
+ghost use Rattle.write.specs.Writing.{WritingOf};
 ghost use Rattle.film_turns.specs.Chunks.{chunkOf};
 ghost use Rattle.film_turns.specs.declared.Form.the-variants as form;
 ghost use Rattle.film_turns.specs.Turns.{nextOf, streamSize};
+ghost use Rattle.old_film.specs.Finding.{partsOf, filmBy};
 ghost use Rattle.film_move.specs.Moving.{movedFrom};
-ghost use Rattle.film_move.specs.FromOld.{plannedAs, packingOf};
+ghost use Rattle.film_move.specs.FromOld.{plannedAs, packingOf, FromOld};
 use codec::Codec;
 use film_plan::Packing;
 use film_turns::Form;
 use film_turns::Track;
 use film_turns::Turns;
+use old_film::Found;
+use old_film::OldFilm;
 use refusal::Cause;
 use refusal::Refusal;
 use unmasking::Key;
@@ -192,4 +200,68 @@ fn plan_turns(frame: usize, turns: Turns) -> Written
         return refused(Cause::MarkedPayload);
     }
     Written::Size(size)
+}
+
+// Puts a film of the builder as request 1's at the start of the output: all but the turns, and these before its ends.
+fn put_moved(out: &mut [u8], container: &[u8], film: OldFilm, packing: Packing, frame: usize)
+    requires { ⌜ (film ≡ filmBy (partsOf (now container))) × (packing .key ≡ key.Absent) × (plannedOf (partsOf (now container) .name) [] [] packing ≡ written.Size frame) × (length (filmBytes (partsOf (now container) .name) (partsOf (now container) .read .video) (partsOf (now container) .read .audio) packing) ≤ length (now out)) ⌝ }
+    ensures { λ _. ⌜ now (out .exit) ≡ sets (now (out .entry)) 0 (filmBytes (partsOf (now (container .entry)) .name) (partsOf (now (container .entry)) .read .video) (partsOf (now (container .entry)) .read .audio) packing) ⌝ }
+{
+    let name = part::part_at(container, old_film::NAME, film.name);
+    write::write(name, b"", b"", packing, out);
+    let start = frame - ends_size(packing.audio);
+    let left = word::left_from(container, film.start);
+    let chunks = part::part_at(container, film.start, left);
+    let at = move_turns(out, start, chunks, Form::Old, Form::New, film.audio);
+    put_ends(out, at, packing.audio);
+}
+
+// Moves a film of the builder that has `frame` bytes without its turns.
+fn move_turned(
+    container: &[u8],
+    film: OldFilm,
+    packing: Packing,
+    frame: usize,
+    out: &mut [u8],
+) -> Written
+    requires { ⌜ (length (now container) ≤ 0x40000000) × (film ≡ filmBy (partsOf (now container))) × (packing .key ≡ key.Absent) × (plannedOf (partsOf (now container) .name) [] [] packing ≡ written.Size frame) ⌝ }
+    ensures { λ r. ⌜ WritingOf (partsOf (now (container .entry)) .name) (partsOf (now (container .entry)) .read .video) (partsOf (now (container .entry)) .read .audio) packing (now (out .entry)) r (now (out .exit)) ⌝ }
+{
+    let planned = plan_turns(frame, film.turns);
+    match written::written_in(out.len(), planned) {
+        Written::Size(size) => {
+            put_moved(out, container, film, packing, frame);
+            Written::Size(size)
+        }
+        Written::Refused(refusal) => Written::Refused(refusal),
+    }
+}
+
+// Moves a film of the builder.
+fn move_film(container: &[u8], film: OldFilm, packing: Packing, out: &mut [u8]) -> Written
+    requires { ⌜ (length (now container) ≤ 0x40000000) × (film ≡ filmBy (partsOf (now container))) × (packing .key ≡ key.Absent) ⌝ }
+    ensures { λ r. ⌜ WritingOf (partsOf (now (container .entry)) .name) (partsOf (now (container .entry)) .read .video) (partsOf (now (container .entry)) .read .audio) packing (now (out .entry)) r (now (out .exit)) ⌝ }
+{
+    let name = part::part_at(container, old_film::NAME, film.name);
+    match film_plan::plan(name, b"", b"", packing) {
+        Written::Size(frame) => move_turned(container, film, packing, frame, out),
+        Written::Refused(refusal) => Written::Refused(refusal),
+    }
+}
+
+// Moves a film of the old builder, with at most one audio, to request 1's container, with the codecs that are given, and answers its size.
+// Bytes past it stay; a refusal leaves the output as it was.
+pub fn from_old(container: &[u8], mpeg_codec: Codec, audio_codec: Codec, out: &mut [u8]) -> Written
+    ensures { λ r. ⌜ FromOld (now (container .entry)) «mpeg_codec» «audio_codec» (now (out .entry)) r (now (out .exit)) ⌝ }
+{
+    if LONGEST < container.len() {
+        return refused(Cause::TooLong);
+    }
+    match old_film::find(container) {
+        Found::Film(film) => {
+            let packing = packing_of(film.audio, mpeg_codec, audio_codec);
+            move_film(container, film, packing, out)
+        }
+        Found::Foreign => refused(Cause::Foreign),
+    }
 }
