@@ -1,7 +1,7 @@
 -- No second answer meets the contract of this crate's function: what a caller learns makes two results, and with them the output at exit, one. Assumes nothing.
 use mathlib.Core.Path.{_≡_, sym}
 use Rattle.laws.proofs.OneAnswer.{no-second-answer}
-use Rattle.film_move.proofs.from_old.Reads as from-old
+use Rattle.film_move.proofs.onward.from_old.Reads as from-old
 
 pub from-old-once : (κs : _) (args : _) (r r′ : _) (exit exit′ : _) → from-old.Learnt κs args r exit → from-old.Learnt κs args r′ exit′
     → (r ≡ r′) × (exit .1 .1 .1 .0 .now ≡ exit′ .1 .1 .1 .0 .now)

@@ -1,9 +1,9 @@
--- `film_move::put` meets its contract: the bytes are copied to their place. Assumes nothing.
+-- `film_move::putting::put` meets its contract: the bytes are copied to their place. Assumes nothing.
 use mathlib.Core.Path.{refl}
 use Rattle.laws.proofs.LentLaws.{put-copied}
 use borrow.Author.Needs.{needs}
-use Rattle.film_move.proofs.put.Statement.{statement}
-use Rattle.film_move.proofs.put.Tie as tie
+use Rattle.film_move.proofs.putting.put.Statement.{statement}
+use Rattle.film_move.proofs.putting.put.Tie as tie
 
 add-end : tie.Need-add-end
 add-end c = search needs

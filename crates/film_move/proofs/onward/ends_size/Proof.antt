@@ -1,8 +1,8 @@
--- `film_move::ends_size` meets its contract: 64 bytes for each end. Assumes nothing.
+-- `film_move::onward::ends_size` meets its contract: 64 bytes for each end. Assumes nothing.
 use Rattle.film_move.proofs.EndLaws.{both-size, one-size}
 use borrow.Author.Needs.{needs}
-use Rattle.film_move.proofs.ends_size.Statement.{statement}
-use Rattle.film_move.proofs.ends_size.Tie as tie
+use Rattle.film_move.proofs.onward.ends_size.Statement.{statement}
+use Rattle.film_move.proofs.onward.ends_size.Tie as tie
 
 returns : tie.Need-returns
 returns c = both-size _ (c .if1 .taken)

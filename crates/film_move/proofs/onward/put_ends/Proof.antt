@@ -1,9 +1,9 @@
--- `film_move::put_ends` meets its contract: one chunk, and with audio a second. Assumes nothing.
+-- `film_move::onward::put_ends` meets its contract: one chunk, and with audio a second. Assumes nothing.
 use native.Mathlib.Omega.{arith}
 use Rattle.film_move.proofs.EndLaws.{video-end-fits, audio-end-fits, both-ends, one-end}
 use borrow.Author.Needs.{needs}
-use Rattle.film_move.proofs.put_ends.Statement.{statement}
-use Rattle.film_move.proofs.put_ends.Tie as tie
+use Rattle.film_move.proofs.onward.put_ends.Statement.{statement}
+use Rattle.film_move.proofs.onward.put_ends.Tie as tie
 
 slice-aggregate-put-chunk : tie.Need-slice-aggregate-put-chunk
 slice-aggregate-put-chunk c = search needs

@@ -1,10 +1,10 @@
--- `film_move::put_zeros` meets its contract: so many zeros, of 32. Assumes nothing.
+-- `film_move::putting::put_zeros` meets its contract: so many zeros, of 32. Assumes nothing.
 use mathlib.Core.Path.{sym}
 use Rattle.laws.proofs.PutLaws.{put-as}
 use Rattle.film_turns.proofs.ChunkLaws.{some-zeros, zeros-length}
 use borrow.Author.Needs.{needs}
-use Rattle.film_move.proofs.put_zeros.Statement.{statement}
-use Rattle.film_move.proofs.put_zeros.Tie as tie
+use Rattle.film_move.proofs.putting.put_zeros.Statement.{statement}
+use Rattle.film_move.proofs.putting.put_zeros.Tie as tie
 
 array-share-prefix-none : tie.Need-array-share-prefix-none
 array-share-prefix-none c = search needs

@@ -1,4 +1,4 @@
--- `film_move::move_turned` meets its contract: what is planned is answered, where the output has room for it, and the film is put. Assumes nothing.
+-- `film_move::onward::move_turned` meets its contract: what is planned is answered, where the output has room for it, and the film is put. Assumes nothing.
 use mathlib.Core.Path.{refl, sym, _∙_}
 use native.Mathlib.Omega.{arith}
 use denote.Ref.{now}
@@ -6,8 +6,8 @@ use Rattle.written.proofs.RoomLaws.{planned-so}
 use Rattle.film_plan.proofs.PlanLaws.{accepted}
 use Rattle.film_move.proofs.FromLaws.{turns-few, plan-moved}
 use borrow.Author.Needs.{needs}
-use Rattle.film_move.proofs.move_turned.Statement.{statement}
-use Rattle.film_move.proofs.move_turned.Tie as tie
+use Rattle.film_move.proofs.onward.move_turned.Statement.{statement}
+use Rattle.film_move.proofs.onward.move_turned.Tie as tie
 
 plan-turns-requires : tie.Need-plan-turns-requires
 plan-turns-requires c κs =

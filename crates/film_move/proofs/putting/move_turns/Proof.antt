@@ -1,4 +1,4 @@
--- `film_move::move_turns` meets its contract: what is put, with the turns from here on put after it, is what all turns leave. Assumes nothing.
+-- `film_move::putting::move_turns` meets its contract: what is put, with the turns from here on put after it, is what all turns leave. Assumes nothing.
 use Prim.Native.Nat.{ℕ, _+_, _-_, _*_, _≤_}
 use mathlib.Core.Path.{sym, ap, _∙_}
 use mathlib.Core.List.{List}
@@ -11,8 +11,8 @@ use Rattle.film_turns.specs.Chunks.{gapOf}
 use Rattle.film_turns.proofs.TurnLaws.{from-place, end-fits, turn-less}
 use Rattle.film_move.proofs.PutLaws.{MoveLeft, move-all, v-few, a-few, v-part, a-part, middle-fits, video-fits, audio-fits, turn-moved, moved-all}
 use borrow.Author.Needs.{needs}
-use Rattle.film_move.proofs.move_turns.Statement.{statement}
-use Rattle.film_move.proofs.move_turns.Tie as tie
+use Rattle.film_move.proofs.putting.move_turns.Statement.{statement}
+use Rattle.film_move.proofs.putting.move_turns.Tie as tie
 
 abbrev Inv-loop : tie.InvT-loop
 Inv-loop out₀ start bytes old new audio at₀ place₀ from₀ seen₀ heard₀ out at place from seen heard =

@@ -1,11 +1,11 @@
--- `film_move::move_film` meets its contract: what is refused of the film without its payloads is refused of it. Assumes nothing.
+-- `film_move::onward::move_film` meets its contract: what is refused of the film without its payloads is refused of it. Assumes nothing.
 use mathlib.Core.Path.{refl, sym, ap, _∙_}
 use denote.Ref.{now}
 use Rattle.written.specs.Written.{writtenIn}
 use Rattle.film_move.proofs.FromLaws.{plan-named, plan-refused}
 use borrow.Author.Needs.{needs}
-use Rattle.film_move.proofs.move_film.Statement.{statement}
-use Rattle.film_move.proofs.move_film.Tie as tie
+use Rattle.film_move.proofs.onward.move_film.Statement.{statement}
+use Rattle.film_move.proofs.onward.move_film.Tie as tie
 
 part-at-requires : tie.Need-part-at-requires
 part-at-requires c κs = search needs

@@ -1,11 +1,11 @@
--- `film_move::plan_turns` meets its contract: a law for each answer. Assumes nothing.
+-- `film_move::onward::plan_turns` meets its contract: a law for each answer. Assumes nothing.
 use native.Mathlib.Omega.{arith}
 use borrow.Author.Tests.{lt-ltb, le-ltb}
 use Rattle.film_turns.specs.declared.Form.the-variants.{New}
 use Rattle.film_move.proofs.FromLaws.{stream-few}
 use borrow.Author.Needs.{needs}
-use Rattle.film_move.proofs.plan_turns.Statement.{statement}
-use Rattle.film_move.proofs.plan_turns.Tie as tie
+use Rattle.film_move.proofs.onward.plan_turns.Statement.{statement}
+use Rattle.film_move.proofs.onward.plan_turns.Tie as tie
 
 cast-stream-size : tie.Need-cast-stream-size
 cast-stream-size c = search needs

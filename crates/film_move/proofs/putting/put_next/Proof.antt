@@ -1,10 +1,10 @@
--- `film_move::put_next` meets its contract: without a payload there is no chunk. Assumes nothing.
+-- `film_move::putting::put_next` meets its contract: without a payload there is no chunk. Assumes nothing.
 use mathlib.Core.Path.{sym}
 use Rattle.laws.proofs.PutLaws.{put-as, put-none}
 use Rattle.film_move.proofs.PutLaws.{next-is, next-none}
 use borrow.Author.Needs.{needs}
-use Rattle.film_move.proofs.put_next.Statement.{statement}
-use Rattle.film_move.proofs.put_next.Tie as tie
+use Rattle.film_move.proofs.putting.put_next.Statement.{statement}
+use Rattle.film_move.proofs.putting.put_next.Tie as tie
 
 returns : tie.Need-returns
 returns c =

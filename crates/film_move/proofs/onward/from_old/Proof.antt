@@ -1,11 +1,11 @@
--- `film_move::from_old` meets its contract: a law for each answer. Assumes nothing.
+-- `film_move::onward::from_old` meets its contract: a law for each answer. Assumes nothing.
 use mathlib.Core.Path.{sym, ap, _∙_}
 use denote.Ref.{now}
 use Rattle.film_plan.specs.declared.Packing.{Packing}
 use Rattle.film_move.proofs.FromLaws.{is-film, from-long, from-film, from-foreign}
 use borrow.Author.Needs.{needs}
-use Rattle.film_move.proofs.from_old.Statement.{statement}
-use Rattle.film_move.proofs.from_old.Tie as tie
+use Rattle.film_move.proofs.onward.from_old.Statement.{statement}
+use Rattle.film_move.proofs.onward.from_old.Tie as tie
 
 refused-requires : tie.Need-refused-requires
 refused-requires c κs = search needs

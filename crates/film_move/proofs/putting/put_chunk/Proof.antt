@@ -1,10 +1,10 @@
--- `film_move::put_chunk` meets its contract: its head, the gap, the payload and its padding. Assumes nothing.
+-- `film_move::putting::put_chunk` meets its contract: its head, the gap, the payload and its padding. Assumes nothing.
 use native.Mathlib.Omega.{arith}
 use Rattle.film_turns.proofs.ChunkLaws.{shape-fits}
 use Rattle.film_move.proofs.PutLaws.{head-fits, gap-has-room, payload-fits, pads-have-room, chunk-put}
 use borrow.Author.Needs.{needs}
-use Rattle.film_move.proofs.put_chunk.Statement.{statement}
-use Rattle.film_move.proofs.put_chunk.Tie as tie
+use Rattle.film_move.proofs.putting.put_chunk.Statement.{statement}
+use Rattle.film_move.proofs.putting.put_chunk.Tie as tie
 
 cast-shape-of : tie.Need-cast-shape-of
 cast-shape-of c = search needs

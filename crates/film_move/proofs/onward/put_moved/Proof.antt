@@ -1,10 +1,10 @@
--- `film_move::put_moved` meets its contract: what is written without a payload, the turns over its ends, and the ends after them. Assumes nothing.
+-- `film_move::onward::put_moved` meets its contract: what is written without a payload, the turns over its ends, and the ends after them. Assumes nothing.
 use denote.Ref.{now}
 use Rattle.old_film.specs.Finding.{partsOf}
 use Rattle.film_move.proofs.FromLaws.{start-is, moved-fits, ends-fit, film-moved}
 use borrow.Author.Needs.{needs}
-use Rattle.film_move.proofs.put_moved.Statement.{statement}
-use Rattle.film_move.proofs.put_moved.Tie as tie
+use Rattle.film_move.proofs.onward.put_moved.Statement.{statement}
+use Rattle.film_move.proofs.onward.put_moved.Tie as tie
 
 part-at-requires : tie.Need-part-at-requires
 part-at-requires c κs = search needs
