@@ -1,5 +1,5 @@
 -- A block that was written, as the readers find it: letters, sizes, data type, what it holds, and where the next one stands. Assumes nothing.
-use Prim.Native.Nat.{ℕ, _+_, _-_, _*_, _/_, _%_, _^_, _≤_, _<_}
+use Prim.Native.Nat.{ℕ, _+_, _-_, _%_, _^_, _≤_, _<_}
 use mathlib.Core.Path.{_≡_, refl, ap, _∙_}
 use mathlib.Core.List.{List, [], _∷_, _++_, append-assoc}
 use mathlib.Core.Bool.{true}
@@ -16,23 +16,10 @@ use Rattle.block.specs.declared.Ahead.the-variants.{Sound, Other}
 use Rattle.block.specs.Blocks.{headAt, markedAt, markerBlock, aheadAt, lastBlock, chunksAfter}
 use Rattle.film_blocks.specs.Blocks.{zeros, padding, headOf, blockOf}
 use Rattle.film_blocks.specs.Tables.{markerOf}
+use Rattle.film_blocks.proofs.NumberLaws.{whole16, whole32}
 use Rattle.film_plan.specs.Sizes.{blockSize}
 use Rattle.film_plan.proofs.LengthLaws.{head-length, block-length}
 use Rattle.repack.proofs.FromLaws.{From, left-is, be32-is, stands-is}
-
--- ---- numbers of two and four bytes
-
-pub whole16 : (n : ℕ) → n < 2 ^ 16 → n / 2 ^ 8 % 2 ^ 8 * 2 ^ 8 + n % 2 ^ 8 ≡ n
-whole16 n h = omega arith
-
-pub whole32 : (n : ℕ) → n < 2 ^ 32 → (n / 2 ^ 24 % 2 ^ 8 * 2 ^ 8 + n / 2 ^ 16 % 2 ^ 8) * 2 ^ 16 + (n / 2 ^ 8 % 2 ^ 8 * 2 ^ 8 + n % 2 ^ 8) ≡ n
-whole32 n h =
-    let a : n / 2 ^ 24 % 2 ^ 8 ≡ n / 2 ^ 16 / 2 ^ 8 % 2 ^ 8 = ap (λ (q : ℕ). q % 2 ^ 8) (omega arith) in
-    let b : n / 2 ^ 8 % 2 ^ 8 ≡ n % 2 ^ 16 / 2 ^ 8 % 2 ^ 8 = omega arith in
-    let c : n % 2 ^ 8 ≡ n % 2 ^ 16 % 2 ^ 8 = omega arith in
-    let high = whole16 (n / 2 ^ 16) (omega arith) in
-    let low = whole16 (n % 2 ^ 16) (omega arith) in
-    rw (a, b, c, high, low) (omega arith)
 
 -- ---- a block, and what comes after it
 

@@ -38,8 +38,8 @@ use Rattle.lookup.specs.Lookups.{shifted, bodyCell, cellFrom, cellOf, lastCellO
 use Rattle.block.specs.Blocks.{filename}
 use Rattle.film_blocks.specs.Blocks.{bytes32}
 use Rattle.film_blocks.specs.Tables.{emptyTable, tableHead, tableWith}
+use Rattle.film_blocks.proofs.NumberLaws.{whole32}
 use Rattle.film_plan.proofs.LengthLaws.{table-length}
-use Rattle.repack.proofs.BlockReadLaws.{whole32}
 
 -- ---- a column's name
 
