@@ -59,7 +59,7 @@ unfolding shapeOf
 same-size Old track from n = refl
 same-size New track from n = refl
 
-head-length : (shape : Shape) → length (headBy shape) ≡ 28
+pub head-length : (shape : Shape) → length (headBy shape) ≡ 28
 unfolding headBy
 head-length shape = refl
 
@@ -135,7 +135,7 @@ module _ (payload : List ℕ) where
   no-long true stands ends e = refl
   no-long false stands ends e = let z : _≡_ {A = ℕ} 0 1 = cc in absurd (omega arith)
 
-  no-stand : (long stands ends : Bool) → stands ≡ false → picked long stands ends ≡ []
+  pub no-stand : (long stands ends : Bool) → stands ≡ false → picked long stands ends ≡ []
   no-stand true false ends e = refl
   no-stand false false ends e = refl
   no-stand long true ends e = let z : _≡_ {A = ℕ} 0 1 = cc in absurd (omega arith)
@@ -144,7 +144,7 @@ module _ (payload : List ℕ) where
   no-end long stands true e = ap (λ (t : Bool). cond t payload []) (and-false (not long && stands))
   no-end long stands false e = let z : _≡_ {A = ℕ} 0 1 = cc in absurd (omega arith)
 
-  all-there : (long stands ends : Bool) → long ≡ false → stands ≡ true → ends ≡ false → picked long stands ends ≡ payload
+  pub all-there : (long stands ends : Bool) → long ≡ false → stands ≡ true → ends ≡ false → picked long stands ends ≡ payload
   all-there long stands ends e f g = rw (e, f, g)
 
 module _ (form : Form) (track : Track) (from : ℕ) (bytes : List ℕ) (len : ℕ) (e : len ≡ lenIn form bytes) (shape : Shape) (f : shape ≡ shapeOf form track from len) where

@@ -4,4 +4,5 @@ pub mod TurnLaws
 pub mod ReadLaws
 pub mod SizeLaws
 pub mod PayloadLaws
+pub mod BackLaws
 pub mod OneAnswer

@@ -1,12 +1,12 @@
 -- A payload that is read is the part of that length that stands where payloads do. Assumes nothing.
 use Prim.Native.Nat.{ℕ, _+_, _≤_, _<_}
 use mathlib.Core.Path.{_≡_, refl, sym, ap, _∙_}
-use mathlib.Core.List.{List, []}
+use mathlib.Core.List.{List, [], _++_}
 use mathlib.Core.Bool.{Bool, true, false, not, cond, _&&_}
 use mathlib.Core.Logic.{⊎-elim}
 use native.Mathlib.Omega.{arith}
-use lib.ListN.{length, take, drop, length-drop}
-use lib.Seq.{length-take-le}
+use lib.ListN.{length, take, drop, length-drop, length-append}
+use lib.Seq.{take-at, drop-at, length-take-le}
 use lib.Dec.{leb, ltb}
 use borrow.Author.Tests.{le-leb, lt-leb}
 use Rattle.laws.proofs.Side.{side}
@@ -31,6 +31,11 @@ part-again bytes place n =
     (λ (h : place + n ≤ length bytes).
     let l : length (partAt bytes place n) ≡ n = rw (le-leb (place + n) (length bytes) h) (length-take-le n (drop place bytes) (rw length-drop (omega arith))) in
     ap (partAt bytes place) l) (side (length bytes) (place + n))
+
+pub part-between : (x y z : List ℕ) (place n : ℕ) → length x ≡ place → length y ≡ n → partAt (x ++ (y ++ z)) place n ≡ y
+part-between x y z place n e f =
+    rw (le-leb (place + n) (length (x ++ (y ++ z))) (omega (arith, e, f, length-append x (y ++ z), length-append y z)))
+    (ap (take n) (drop-at x (y ++ z) place e) ∙ take-at y z n f)
 
 module _ (form : Form) (bytes : List ℕ) where
   picked : (t : Bool) → partAt bytes (28 + gapOf form) (length (cond t (insideOf form bytes) [])) ≡ cond t (insideOf form bytes) []

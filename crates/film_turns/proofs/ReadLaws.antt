@@ -193,7 +193,7 @@ module _ (form : Form) where
       by-cases form n from seen heard bytes (λ r. (length (r .video) ≤ suc n * 0x10000) × (length (r .audio) ≤ suc n * 0x10000)) (omega arith, omega arith)
       (omega (arith, length-append v (r .video), ih .0), omega (arith, length-append a (r .audio), ih .1))
 
-empty : (bytes : List ℕ) → length bytes ≤ 0 → bytes ≡ []
+pub empty : (bytes : List ℕ) → length bytes ≤ 0 → bytes ≡ []
 empty [] h = refl
 empty (byte ∷ bytes) h = absurd (omega arith)
 
