@@ -52,14 +52,14 @@ module _ (name : List ℕ) where
   unfolding oldNames
   names-length = length-append (nameStart n) (name ++ (0 ∷ [])) ∙ ap (λ (m : ℕ). 68 + m) (length-append name (0 ∷ [])) ∙ omega arith
 
-  name-head-length : length nameHead ≡ 96
+  pub name-head-length : length nameHead ≡ 96
   name-head-length = length-append (oldHead CRID (89 + n)) (nameStart n) ∙ ap (λ (m : ℕ). m + 68) (head-length CRID (89 + n))
 
   sized : (size m : ℕ) → size ≡ 89 + n → m ≡ 97 + n → (oldHead CRID size ++ oldNames name) ++ zeros (padding m) ≡ nameHead ++ (name ++ nameTail)
   unfolding oldNames
   sized size m e f = rw (e, f, zeros-more (padding (97 + n))) (simp append-assoc)
 
-  name-block : tableBlock CRID (oldNames name) ≡ nameHead ++ (name ++ nameTail)
+  pub name-block : tableBlock CRID (oldNames name) ≡ nameHead ++ (name ++ nameTail)
   unfolding tableBlock
   name-block =
       sized (20 + length (oldNames name)) (length (oldHead CRID (20 + length (oldNames name)) ++ oldNames name)) (omega (arith, names-length))
@@ -82,11 +82,11 @@ module _ (name : List ℕ) where
 
 -- ---- the other blocks
 
-video-block-length : (v : ℕ) → length (tableBlock SFV (oldVideo v)) ≡ 0x80
+pub video-block-length : (v : ℕ) → length (tableBlock SFV (oldVideo v)) ≡ 0x80
 unfolding tableBlock oldVideo oldHead
 video-block-length v = refl
 
-audio-blocks-length : (audio : Bool) (bytes : List ℕ) → length (audioBlocks 0 (audiosOf audio bytes)) ≡ audioSize audio
+pub audio-blocks-length : (audio : Bool) (bytes : List ℕ) → length (audioBlocks 0 (audiosOf audio bytes)) ≡ audioSize audio
 unfolding audioBlocks tableBlock oldAudio oldHead
 audio-blocks-length true bytes = refl
 audio-blocks-length false bytes = refl

@@ -1,2 +1,4 @@
 pub mod FindLaws
+pub mod BackLaws
+pub mod Promises
 pub mod OneAnswer
