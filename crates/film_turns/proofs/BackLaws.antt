@@ -1,5 +1,5 @@
 -- Turns that are written are read back: each chunk is found where it stands, and none where another does. Assumes nothing.
-use Prim.Native.Nat.{ℕ, zero, suc, _+_, _*_, _/_, _%_, _^_, _≤_, _<_}
+use Prim.Native.Nat.{ℕ, zero, suc, _+_, _-_, _*_, _≤_, _<_}
 use mathlib.Core.Path.{_≡_, refl, sym, ap, ap₂, _∙_}
 use mathlib.Core.List.{List, [], _∷_, _++_, append-assoc}
 use mathlib.Core.Bool.{Bool, true, false, _||_, _&&_}
@@ -10,6 +10,7 @@ use lib.Seq.{drop-drop, drop-at, length-take-le}
 use lib.Dec.{ltb}
 use borrow.Author.Tests.{le-ltb, eq-eqb}
 use Rattle.laws.proofs.Side.{side}
+use Rattle.word.specs.Numbers.{be16, be32}
 use Rattle.part.specs.Parts.{partAt}
 use Rattle.signature.specs.Signatures.{sameBytes, standsAt}
 use Rattle.film_blocks.specs.Blocks.{bytes32, zeros, padding}
@@ -44,11 +45,15 @@ Gives video sound size read = (read .video ≡ video) × (read .audio ≡ sound)
 
 len-back : (form : Form) (track : Track) (from : ℕ) (payload more : List ℕ) → length payload ≤ 0x10000 → lenIn form (chunkOf form track from payload ++ more) ≡ length payload
 unfolding chunkOf shapeOf headBy
-len-back Old track from payload more h = rw (whole32 (0x18 + length payload) (omega arith)) (omega arith)
+len-back Old track from payload more h =
+    let n = length payload in
+    let size : be32 (chunkOf Old track from payload ++ more) 4 ≡ 0x18 + n = whole32 (0x18 + n) (omega arith) in
+    ap (λ (k : ℕ). k - 0x18) size ∙ omega arith
 len-back New track from payload more h =
     let n = length payload in
-    let foot : (0x00180000 + padding n) / 2 ^ 8 % 2 ^ 8 * 2 ^ 8 + (0x00180000 + padding n) % 2 ^ 8 ≡ padding n = omega arith in
-    rw (whole32 (0x18 + n + padding n) (omega arith), foot) (omega arith)
+    let foot : be16 (chunkOf New track from payload ++ more) 10 ≡ padding n = omega arith in
+    let size : be32 (chunkOf New track from payload ++ more) 4 ≡ 0x18 + n + padding n = whole32 (0x18 + n + padding n) (omega arith) in
+    ap₂ (λ (k m : ℕ). k - 0x18 - m) size foot ∙ omega arith
 
 module _ (form : Form) (track : Track) (from : ℕ) (payload more : List ℕ) (few : length payload ≤ 0x10000) where
   abbrev shape : Shape
