@@ -146,7 +146,7 @@ shuffle true true s l = refl
 shuffle true false s l = refl
 shuffle false v s l = refl
 
-closing : (a p e : ℕ) → 0 < e → eqb a (p + e) ≡ eqb (a - p) e
+pub closing : (a p e : ℕ) → 0 < e → eqb a (p + e) ≡ eqb (a - p) e
 closing a p e h =
     ⊎-elim (λ (k : a < p + e). rw (ne-eqb a (p + e) (λ z. omega arith)) (sym (ne-eqb (a - p) e (λ z. omega arith))))
     (λ (k : p + e ≤ a).
