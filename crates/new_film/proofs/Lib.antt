@@ -1,0 +1,6 @@
+pub mod NewLaws
+pub mod FilmLaws
+pub mod HeaderLaws
+pub mod FindLaws
+pub mod FrameLaws
+pub mod OneAnswer
