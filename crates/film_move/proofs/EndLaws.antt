@@ -1,8 +1,8 @@
 -- The ends of request 1's streams are chunks like the others: the first has room, with audio the second has too, and together they are what is put. Assumes nothing.
 use Prim.Native.Nat.{ℕ, _+_, _≤_}
-use mathlib.Core.Path.{_≡_, sym, ap, _∙_}
+use mathlib.Core.Path.{_≡_}
 use mathlib.Core.List.{List}
-use mathlib.Core.Bool.{Bool, true, false, cond}
+use mathlib.Core.Bool.{Bool, true, false}
 use lib.ListN.{length}
 use Rattle.laws.specs.Outputs.{Put}
 use Rattle.laws.proofs.PutLaws.{put-as}
@@ -16,8 +16,7 @@ use Rattle.write.proofs.EachPutLaws.{first-fits, second-fits, both-put, one-put
 use Rattle.film_turns.specs.declared.Form.the-variants.{New}
 use Rattle.film_turns.specs.declared.Track.the-variants as track
 use Rattle.film_turns.specs.Chunks.{chunkOf}
-use Rattle.film_move.proofs.NewLaws.{chunk-new}
-use Rattle.film_move.proofs.FromLaws.{ends-length}
+use Rattle.new_film.proofs.NewLaws.{chunk-new}
 
 abbrev held : Stream → List ℕ
 held stream = markerOf contentsEnd
@@ -38,11 +37,3 @@ module _ (out : List ℕ) (at : ℕ) (audio : Bool) (room : at + length (bytesOf
 
     pub one-end : audio ≡ false → Put (bytesOf (inEach audio held)) out at after end
     one-end e = one-put held out at first audio e
-
--- ---- how many bytes they take
-
-pub both-size : (audio : Bool) → audio ≡ true → 0x80 ≡ length (bytesOf (inEach audio held))
-both-size audio e = sym (ends-length audio ∙ ap (λ (t : Bool). cond {A = ℕ} t 0x80 0x40) e)
-
-pub one-size : (audio : Bool) → audio ≡ false → 0x40 ≡ length (bytesOf (inEach audio held))
-one-size audio e = sym (ends-length audio ∙ ap (λ (t : Bool). cond {A = ℕ} t 0x80 0x40) e)

@@ -3,49 +3,43 @@ use Prim.Native.Nat.{ℕ, _+_, _-_, _*_, _%_, _≤_, _<_}
 use mathlib.Core.Path.{_≡_, refl, sym, ap, ap₂, _∙_, subst}
 use mathlib.Core.List.{List, [], _++_, append-assoc}
 use mathlib.Core.Bool.{Bool, true, false, not, cond, _||_, _&&_}
-use mathlib.Core.Logic.{⊎-elim}
 use native.Mathlib.Omega.{arith}
-use lib.ListN.{length, take, drop, length-append, length-drop, drop-of-length-le}
-use lib.Seq.{sets, sets-eq, length-sets, length-take-le, take-all, take-at, drop-at, drop-drop}
+use lib.ListN.{length, take, drop, length-append, length-drop}
+use lib.Seq.{sets, sets-eq, length-sets, length-take-le, take-at, drop-at, drop-drop}
 use lib.Dec.{ltb}
-use borrow.Author.Tests.{lt-ltb, le-ltb, ltb-true, le-leb, lt-leb}
+use borrow.Author.Tests.{lt-ltb, le-ltb, ltb-true}
 use Rattle.laws.specs.Outputs.{Put}
-use Rattle.laws.proofs.Side.{side}
 use Rattle.laws.proofs.SetsLaws.{sets-append}
 use Rattle.laws.proofs.PutLaws.{put-then}
 use Rattle.part.specs.Parts.{partAt}
-use Rattle.signature.specs.Signatures.{contentsEnd}
 use Rattle.refusal.specs.declared.Cause.the-variants.{TooLong, MarkedPayload, CodecAlone}
 use Rattle.refusal.specs.declared.Cause.the-variants as cause
 use Rattle.refusal.specs.declared.Refusal.{Refusal}
 use Rattle.codec.specs.declared.Codec.{Codec}
 use Rattle.unmasking.specs.declared.Key.the-variants.{Absent}
-use Rattle.unmasking.specs.declared.Unmasking.{Unmasking}
-use Rattle.unmasking.specs.Unmasking.{unmaskingOf}
 use Rattle.written.specs.declared.Written.{Written}
 use Rattle.written.specs.declared.Written.the-variants.{Size, Refused}
 use Rattle.written.specs.Written.{writtenIn, leftBy}
-use Rattle.film_blocks.specs.Blocks.{headOf, blockOf}
-use Rattle.film_blocks.specs.Tables.{markerOf}
 use Rattle.film_plan.specs.declared.Packing.{Packing}
 use Rattle.film_plan.specs.Payloads.{payloadsOf}
-use Rattle.film_plan.specs.Films.{bytesOf, inEach, headerBlocks, endBlocks, audioIn, filmBytes}
+use Rattle.film_plan.specs.Films.{bytesOf, endBlocks, audioIn, filmBytes}
 use Rattle.film_plan.specs.Planning.{anyMarked, isGiven, refusedBy, plannedOf}
 use Rattle.film_plan.proofs.PlanLaws.{accepted}
 use Rattle.write.specs.Writing.{WritingOf, Writing}
 use Rattle.film_turns.specs.declared.Form.{Form}
 use Rattle.film_turns.specs.declared.Form.the-variants.{Old, New}
 use Rattle.film_turns.specs.Turns.{chunksOf, streamSize, Read, readIn}
-use Rattle.film_turns.proofs.ReadLaws.{turns-none}
 use Rattle.film_turns.proofs.SizeLaws.{size-few, chunks-length, read-fits}
 use Rattle.film_turns.proofs.PayloadLaws.{part-again}
 use Rattle.word.specs.Numbers.{be32}
+use Rattle.new_film.proofs.FilmLaws.{header, ends, film-laid, frame-laid, header-size}
+use Rattle.new_film.proofs.FindLaws.{rest-part}
+use Rattle.new_film.proofs.FrameLaws.{none-either}
 use Rattle.old_film.specs.declared.OldFilm.{OldFilm}
 use Rattle.old_film.specs.declared.Found.the-variants.{Film, Foreign}
 use Rattle.old_film.specs.Finding.{Parts, partsOf, isOld, filmBy, foundIn}
 use Rattle.film_move.specs.Moving.{movedFrom}
 use Rattle.film_move.specs.FromOld.{plannedAs, packingOf, fromOld, FromOld}
-use Rattle.film_move.proofs.NewLaws.{chunks-new}
 use Rattle.film_move.proofs.MarkLaws.{none-marked, read-marked}
 
 -- ---- stores over stores that are no longer
@@ -85,47 +79,12 @@ pub stream-few : (form : Form) (n : ℕ) → streamSize form n ≤ 2 * n + 63
 unfolding streamSize
 stream-few form n = let l = size-few form (n % 0x10000) (omega arith) in omega (arith, l)
 
-pub ends-length : (audio : Bool) → length (bytesOf (inEach audio (λ stream. markerOf contentsEnd))) ≡ cond audio 0x80 0x40
-unfolding bytesOf blockOf headOf
-ends-length true = refl
-ends-length false = refl
-
-none-either : (t : Bool) → cond {A = List ℕ} t [] [] ≡ []
-none-either true = refl
-none-either false = refl
-
 -- ---- the film that is written
 
 module _ (name : List ℕ) (packing : Packing) (k : packing .key ≡ Absent) where
-  abbrev pub header : List ℕ
-  header = bytesOf (headerBlocks name packing)
-
-  abbrev pub ends : List ℕ
-  ends = bytesOf (endBlocks packing)
-
-  abbrev by : Unmasking
-  by = unmaskingOf (packing .key) (packing .«audio_codec»)
-
-  no-video : by .video ≡ false
-  no-video = rw k
-
-  no-sound : by .audio ≡ false
-  no-sound = rw k
-
-  pub film-laid : (video audio : List ℕ) → filmBytes name video audio packing ≡ header ++ (chunksOf New video audio ++ ends)
-  unfolding filmBytes
-  film-laid video audio = ap (λ (l : List ℕ). header ++ (l ++ ends)) (chunks-new by no-video no-sound video audio)
-
-  pub frame-laid : filmBytes name [] [] packing ≡ header ++ ends
-  frame-laid = film-laid [] [] ∙ ap (λ (l : List ℕ). header ++ (l ++ ends)) (turns-none New 0 0)
-
-  -- its header, by the size of what is written without a payload
-  pub header-size : length (filmBytes name [] [] packing) ≡ length header + length ends
-  header-size = ap length frame-laid ∙ length-append header ends
-
-  -- and where it ends, which is where its ends begin there
-  pub start-is : (n size : ℕ) → plannedOf name [] [] packing ≡ Size n → size ≡ length ends → (size ≤ n) × (n - size ≡ length header)
-  start-is n size e s = let a = accepted name [] [] packing n e in (omega (arith, a .sized, header-size), omega (arith, a .sized, header-size))
+  -- where its header ends, by the size of what is written without a payload: its ends begin there
+  pub start-is : (n size : ℕ) → plannedOf name [] [] packing ≡ Size n → size ≡ length (ends packing) → (size ≤ n) × (n - size ≡ length (header name packing))
+  start-is n size e s = let a = accepted name [] [] packing n e in (omega (arith, a .sized, header-size name packing k), omega (arith, a .sized, header-size name packing k))
 
   module _ (video audio : List ℕ) where
     abbrev whole : ℕ
@@ -139,8 +98,8 @@ module _ (name : List ℕ) (packing : Packing) (k : packing .key ≡ Absent) whe
 
     whole-size : whole ≡ frame + sizes
     whole-size =
-        ap length (film-laid video audio) ∙ length-append header (chunksOf New video audio ++ ends)
-        ∙ omega (arith, length-append (chunksOf New video audio) ends, chunks-length New video audio, header-size)
+        ap length (film-laid name packing k video audio) ∙ length-append (header name packing) (chunksOf New video audio ++ ends packing)
+        ∙ omega (arith, length-append (chunksOf New video audio) (ends packing), chunks-length New video audio, header-size name packing k)
 
     -- ---- what is planned
 
@@ -176,32 +135,32 @@ module _ (name : List ℕ) (packing : Packing) (k : packing .key ≡ Absent) whe
     -- ---- what is put
 
     module _ (out out₁ : List ℕ) (room : whole ≤ length out) where
-      pub frame-put : (n : ℕ) (r : Written) → plannedOf name [] [] packing ≡ Size n → Writing name [] [] packing out r out₁ → out₁ ≡ sets out 0 (header ++ ends)
+      pub frame-put : (n : ℕ) (r : Written) → plannedOf name [] [] packing ≡ Size n → Writing name [] [] packing out r out₁ → out₁ ≡ sets out 0 (header name packing ++ ends packing)
       frame-put n r e w =
           let a = accepted name [] [] packing n e in
           let fits : n ≤ length out = omega (arith, a .sized, whole-size) in
           let w′ : WritingOf name [] [] packing out r out₁ = rw (none-either (packing .audio)) at w in
           let same : r ≡ Size n = w′ .0 ∙ ap (writtenIn (length out)) e ∙ rw (le-ltb (length out) n fits) in
-          w′ .1 ∙ ap (λ (t : Written). leftBy t out (filmBytes name [] [] packing)) same ∙ ap (sets out 0) frame-laid
+          w′ .1 ∙ ap (λ (t : Written). leftBy t out (filmBytes name [] [] packing)) same ∙ ap (sets out 0) (frame-laid name packing k)
 
-      module _ (framed : out₁ ≡ sets out 0 (header ++ ends)) (start : ℕ) (s : start ≡ length header) (moved : List ℕ) (m : moved ≡ chunksOf New video audio) where
-        laid-length : whole ≡ length header + (length moved + length ends)
+      module _ (framed : out₁ ≡ sets out 0 (header name packing ++ ends packing)) (start : ℕ) (s : start ≡ length (header name packing)) (moved : List ℕ) (m : moved ≡ chunksOf New video audio) where
+        laid-length : whole ≡ length (header name packing) + (length moved + length (ends packing))
         laid-length =
-            ap length (film-laid video audio) ∙ length-append header (chunksOf New video audio ++ ends)
-            ∙ omega (arith, length-append (chunksOf New video audio) ends, ap length m)
+            ap length (film-laid name packing k video audio) ∙ length-append (header name packing) (chunksOf New video audio ++ ends packing)
+            ∙ omega (arith, length-append (chunksOf New video audio) (ends packing), ap length m)
 
         turns-room : start + length moved ≤ length out₁
-        turns-room = omega (arith, ap length framed, length-sets out 0 (header ++ ends), laid-length, s)
+        turns-room = omega (arith, ap length framed, length-sets out 0 (header name packing ++ ends packing), laid-length, s)
 
         module _ {out₂ : List ℕ} {at : ℕ} (turned : Put moved out₁ start out₂ at) where
-          ends-room : at + length ends ≤ length out₂
-          ends-room = omega (arith, ap length framed, length-sets out 0 (header ++ ends), laid-length, s, turned .ends, ap length (turned .holds), length-sets out₁ start moved)
+          ends-room : at + length (ends packing) ≤ length out₂
+          ends-room = omega (arith, ap length framed, length-sets out 0 (header name packing ++ ends packing), laid-length, s, turned .ends, ap length (turned .holds), length-sets out₁ start moved)
 
-          all-put : {out₃ : List ℕ} {end : ℕ} → Put ends out₂ at out₃ end → out₃ ≡ sets out 0 (filmBytes name video audio packing)
+          all-put : {out₃ : List ℕ} {end : ℕ} → Put (ends packing) out₂ at out₃ end → out₃ ≡ sets out 0 (filmBytes name video audio packing)
           all-put ended =
-              put-then turned ended .holds ∙ ap₂ (λ (o : List ℕ) (n : ℕ). sets o n (moved ++ ends)) framed s
-              ∙ ap (λ (l : List ℕ). sets (sets out 0 (header ++ ends)) (length header) (l ++ ends)) m
-              ∙ sets-between out header ends (chunksOf New video audio) (rw (film-laid video audio) at room) ∙ ap (sets out 0) (sym (film-laid video audio))
+              put-then turned ended .holds ∙ ap₂ (λ (o : List ℕ) (n : ℕ). sets o n (moved ++ ends packing)) framed s
+              ∙ ap (λ (l : List ℕ). sets (sets out 0 (header name packing ++ ends packing)) (length (header name packing)) (l ++ ends packing)) m
+              ∙ sets-between out (header name packing) (ends packing) (chunksOf New video audio) (rw (film-laid name packing k video audio) at room) ∙ ap (sets out 0) (sym (film-laid name packing k video audio))
 
 -- ---- the parts of a film that was found
 
@@ -233,16 +192,6 @@ module _ (c : List ℕ) where
   unfolding partsOf
   name-is = part-again c 96 (be32 c 4 - 89)
 
-  -- what stands from a place on, as a part
-  pub rest-part : (place : ℕ) → partAt c place (length c - place) ≡ drop place c
-  rest-part place =
-      ⊎-elim
-      (λ (h : length c < place).
-      let over : length c ≤ place = omega arith in
-      rw (lt-leb (place + (length c - place)) (length c) (omega arith)) (sym (drop-of-length-le c over)))
-      (λ (h : place ≤ length c).
-      rw (le-leb (place + (length c - place)) (length c) (omega arith)) (take-all (length c - place) (drop place c) (rw length-drop (omega arith)))) (side (length c) place)
-
   module _ (film : OldFilm) (e : film ≡ filmBy P) where
     pub name-part : partAt c 96 (film .name) ≡ P .name
     name-part = ap (λ (f : OldFilm). partAt c 96 (f .name)) e ∙ name-is
@@ -251,7 +200,7 @@ module _ (c : List ℕ) where
     unfolding movedFrom
     moved-is chunks h =
         ap₂ (λ (f : OldFilm) (l : List ℕ). chunksOf New (readIn Old (f .audio) l .video) (readIn Old (f .audio) l .audio)) e
-        (h ∙ rest-part (film .start) ∙ ap (λ (f : OldFilm). drop (f .start) c) e)
+        (h ∙ rest-part c (film .start) ∙ ap (λ (f : OldFilm). drop (f .start) c) e)
         ∙ ap (λ (r : Read). chunksOf New (r .video) (r .audio)) (sym read-is)
 
     pub video-is : film .turns .video ≡ length (P .read .video)
@@ -292,10 +241,10 @@ module _ (c : List ℕ) where
       named : Writing (P .name) [] [] packing out r out₁
       named = subst (λ (l : List ℕ). Writing l [] [] packing out r out₁) (g ∙ name-part) w
 
-      framed : out₁ ≡ sets out 0 (header (P .name) packing k ++ ends (P .name) packing k)
+      framed : out₁ ≡ sets out 0 (header (P .name) packing ++ ends packing)
       framed = frame-put (P .name) packing k (P .read .video) (P .read .audio) out out₁ room n r f named
 
-      starts : n - size ≡ length (header (P .name) packing k)
+      starts : n - size ≡ length (header (P .name) packing)
       starts = start-is (P .name) packing k n size f s .1
 
       abbrev moved : List ℕ

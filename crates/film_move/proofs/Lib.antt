@@ -1,5 +1,4 @@
 pub mod PutLaws
-pub mod NewLaws
 pub mod MarkLaws
 pub mod FromLaws
 pub mod EndLaws

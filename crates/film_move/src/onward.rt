@@ -57,16 +57,6 @@ fn put_ends(out: &mut [u8], at: usize, audio: bool) -> usize
     at
 }
 
-// How many bytes they take.
-fn ends_size(audio: bool) -> usize
-    ensures { λ r. ⌜ r ≡ length (bytesOf (inEach audio (λ stream. markerOf contentsEnd))) ⌝ }
-{
-    if audio {
-        return 0x80;
-    }
-    0x40
-}
-
 // How a film is packed that is moved: as it is stored.
 fn packing_of(audio: bool, mpeg_codec: Codec, audio_codec: Codec) -> Packing
     ensures { λ r. ⌜ r ≡ packingOf audio «mpeg_codec» «audio_codec» ⌝ }
@@ -103,7 +93,7 @@ fn put_moved(out: &mut [u8], container: &[u8], film: OldFilm, packing: Packing, 
 {
     let name = part::part_at(container, old_film::NAME, film.name);
     write::write(name, b"", b"", packing, out);
-    let start = frame - ends_size(packing.audio);
+    let start = frame - new_film::ends_size(packing.audio);
     let left = word::left_from(container, film.start);
     let chunks = part::part_at(container, film.start, left);
     let at = move_turns(out, start, chunks, Form::Old, Form::New, film.audio);
