@@ -85,7 +85,7 @@ module _ (name more : List ℕ) where
   unfolding nameTable
   name-long = omega (arith, block-long CRID (nameTable name) more, table-length 0x5B filename (bytes32 0 ++ bytes32 (length name)) name)
 
-  part-held : partAt first 86 (length name) ≡ name
+  pub part-held : partAt first 86 (length name) ≡ name
   part-held = rw (le-leb (86 + length name) (length first) name-long, name-held) (take-at name after (length name) refl)
 
 nothing-held : (bytes : List ℕ) → partAt bytes 0 0 ≡ []
