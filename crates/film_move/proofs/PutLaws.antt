@@ -1,14 +1,14 @@
 -- A chunk is put piece by piece, and turns chunk by chunk: each has room where the whole has, and together they are the whole. Assumes nothing.
-use Prim.Native.Nat.{ℕ, zero, suc, _+_, _-_, _*_, _≤_, _<_}
+use Prim.Native.Nat.{ℕ, zero, suc, _+_, _-_, _≤_, _<_}
 use mathlib.Core.Path.{_≡_, refl, sym, ap, ap₂, _∙_, subst}
 use mathlib.Core.List.{List, [], _∷_, _++_}
 use mathlib.Core.Bool.{Bool, true, false, _||_}
 use native.Mathlib.Omega.{arith}
-use lib.ListN.{length, take, drop, length-drop, length-replicate}
+use lib.ListN.{length, drop, length-replicate}
 use lib.Seq.{drop-drop, take-all}
 use lib.Dec.{eqb}
 use Rattle.laws.specs.Outputs.{Put}
-use Rattle.laws.proofs.PutLaws.{Left, all-left, less-left, left-fits, next-fits, none-left, put-then, put-as, put-none}
+use Rattle.laws.proofs.PutLaws.{Left, all-left, less-left, left-fits, next-fits, none-left, put-then}
 use Rattle.film_blocks.specs.Blocks.{zeros}
 use Rattle.film_turns.specs.declared.Track.{Track}
 use Rattle.film_turns.specs.declared.Track.the-variants.{Video, Audio}
@@ -17,7 +17,7 @@ use Rattle.film_turns.specs.declared.Shape.{Shape}
 use Rattle.film_turns.specs.declared.Turns.{Turns}
 use Rattle.film_turns.specs.Chunks.{shapeOf, headBy, chunkOf, chunkSize, gapOf}
 use Rattle.part.specs.Parts.{partAt}
-use Rattle.film_turns.specs.Turns.{nextOf, turnsOf, chunksOf, Read, nothing, seenIn, heardIn, goesOn, turnSize, withTurn, readFrom, readIn}
+use Rattle.film_turns.specs.Turns.{nextOf, turnsOf, Read, nothing, seenIn, heardIn, readFrom, readIn}
 use Rattle.film_turns.proofs.TurnLaws.{TurnAnswers, read-over, end-fits, goes-on, after, rest-is}
 use Rattle.film_turns.proofs.ReadLaws.{held, joins, joins-audio, turns-more, turns-none, turns-same, read-few}
 use Rattle.film_turns.proofs.PayloadLaws.{payload-is}

@@ -1,8 +1,7 @@
 -- Rule O9: the move. "Payloads travel as stored."
-use Prim.Native.Nat.{ℕ, _+_}
+use Prim.Native.Nat.{ℕ}
 use mathlib.Core.List.{List}
 use mathlib.Core.Bool.{Bool}
-use lib.ListN.{length}
 use Rattle.film_turns.specs.declared.Form.{Form}
 use Rattle.film_turns.specs.Turns.{chunksOf, readIn}
 
