@@ -107,7 +107,7 @@ some-ends : (t : Bool) → 0 < cond t 0x80 0x40
 some-ends true = omega arith
 some-ends false = omega arith
 
-module _ (c name : List ℕ) (packing : Packing) (k : packing .key ≡ Absent) (rest : List ℕ) (h : header name packing ≡ nameBlock name ++ rest) (first start : ℕ)
+module _ (c name : List ℕ) (packing : Packing) (k : packing .key ≡ Absent) (rest : List ℕ) (h : header name packing ≡ nameBlock name ++ rest) (last : List ℕ) (l : last ≡ ends packing) (first start : ℕ)
     (f : first ≡ 86 + length name + padding (54 + length name)) (s : start ≡ first + length rest) (turns : Turns)
     (t : turns ≡ turnsBy (readIn New (packing .audio) (drop start c))) (within : turns .end ≤ length (drop start c)) where
   first-is : length (nameBlock name) ≡ first
@@ -122,9 +122,6 @@ module _ (c name : List ℕ) (packing : Packing) (k : packing .key ≡ Absent) (
   abbrev T : List ℕ
   T = chunksOf New (R .video) (R .audio)
 
-  abbrev E : List ℕ
-  E = ends packing
-
   T-there : drop start c ≡ T ++ drop (R .end) (drop start c)
   T-there = read-whole New (packing .audio) (drop start c)
 
@@ -136,7 +133,7 @@ module _ (c name : List ℕ) (packing : Packing) (k : packing .key ≡ Absent) (
       omega (arith, ap length T-there, length-append T (drop (R .end) (drop start c)), length-drop (R .end) (drop start c), ap (λ (u : Turns). u .end) t, within)
 
   abbrev whole : List ℕ
-  whole = header name packing ++ (T ++ E)
+  whole = header name packing ++ (T ++ last)
 
   abbrev end : ℕ
   end = start + turns .end
@@ -144,25 +141,25 @@ module _ (c name : List ℕ) (packing : Packing) (k : packing .key ≡ Absent) (
   header-stands : standsAt (header name packing) c 0 ≡ (standsAt (nameBlock name) c 0 && standsAt rest c first)
   header-stands = ap (λ (l : List ℕ). standsAt l c 0) h ∙ then (nameBlock name) rest c 0 first _ (omega (arith, first-is)) refl
 
-  pieces : standsAt whole c 0 ≡ (standsAt (nameBlock name) c 0 && standsAt rest c first && standsAt E c end)
+  pieces : standsAt whole c 0 ≡ (standsAt (nameBlock name) c 0 && standsAt rest c first && standsAt last c end)
   pieces =
-      then (header name packing) (T ++ E) c 0 start (standsAt E c end) (omega (arith, start-is))
-      (then T E c start end _ (omega (arith, T-length)) refl ∙ ap (λ (u : Bool). u && standsAt E c end) T-stands)
-      ∙ ap (λ (u : Bool). u && standsAt E c end) header-stands
+      then (header name packing) (T ++ last) c 0 start (standsAt last c end) (omega (arith, start-is))
+      (then T last c start end _ (omega (arith, T-length)) refl ∙ ap (λ (u : Bool). u && standsAt last c end) T-stands)
+      ∙ ap (λ (u : Bool). u && standsAt last c end) header-stands
 
-  whole-length : length whole ≡ end + length E
-  whole-length = length-append (header name packing) (T ++ E) ∙ omega (arith, length-append T E, start-is, T-length)
+  whole-length : length whole ≡ end + length last
+  whole-length = length-append (header name packing) (T ++ last) ∙ omega (arith, length-append T last, start-is, T-length)
 
   -- all that is compared
   abbrev pub stands : Bool
-  stands = standsAt (nameBlock name) c 0 && (standsAt rest c first && (standsAt E c end && eqb (length c - end) (length E)))
+  stands = standsAt (nameBlock name) c 0 && (standsAt rest c first && (standsAt last c end && eqb (length c - end) (length last)))
 
   same-is : sameBytes c (filmBytes name (R .video) (R .audio) packing) ≡ stands
   same-is =
-      ap (sameBytes c) (film-laid name packing k (R .video) (R .audio)) ∙ same-front c whole
+      ap (sameBytes c) (film-laid name packing k (R .video) (R .audio) ∙ ap (λ (e : List ℕ). header name packing ++ (T ++ e)) (sym l)) ∙ same-front c whole
       ∙ ap₂ (λ (u w : Bool). u && w) pieces
-      (ap (eqb (length c)) whole-length ∙ closing (length c) end (length E) (rw (ends-length (packing .audio)) (some-ends (packing .audio))))
-      ∙ shuffle (standsAt (nameBlock name) c 0) (standsAt rest c first) (standsAt E c end) (eqb (length c - end) (length E))
+      (ap (eqb (length c)) whole-length ∙ closing (length c) end (length last) (rw (l, ends-length (packing .audio)) (some-ends (packing .audio))))
+      ∙ shuffle (standsAt (nameBlock name) c 0) (standsAt rest c first) (standsAt last c end) (eqb (length c - end) (length last))
 
   pub found : (u : Bool) → (isUtf8 name && stands) ≡ u
       → cond u (Film (record { name = length name; packing = packing; start = start; turns = turns })) Foreign ≡ foundAs c (partsFrom c name packing)

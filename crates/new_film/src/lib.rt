@@ -114,7 +114,8 @@ fn rebuild(container: &[u8], name: &[u8], packing: Packing, rest: &[u8], ends: &
     let chunks = part::part_at(container, start, word::left_from(container, start));
     let turns = film_turns::read_turns(chunks, Form::New, packing.audio);
     let end = start + turns.end;
-    let closed = old_film::closes(container, end, ends);
+    let close = word::left_from(container, end) == ends.len();
+    let closed = both(signature::stands_at(ends, container, end), close);
     let around = both(signature::stands_at(rest, container, first), closed);
     let same = both(name_stands(container, name), around);
     if both(utf8::is_utf8(name), same) {

@@ -4,7 +4,6 @@ use Rattle.laws.proofs.OneAnswer.{no-second-answer}
 use Rattle.old_film.proofs.name_head.Reads as name-head
 use Rattle.old_film.proofs.video_block.Reads as video-block
 use Rattle.old_film.proofs.audio_block.Reads as audio-block
-use Rattle.old_film.proofs.closes.Reads as closes
 use Rattle.old_film.proofs.find.Reads as find
 
 pub name-head-once : (κs : _) (args : _) (r r′ : _) (exit exit′ : _) → name-head.Learnt κs args r exit → name-head.Learnt κs args r′ exit′ → r ≡ r′
@@ -15,9 +14,6 @@ video-block-once κs args r r′ exit exit′ = no-second-answer
 
 pub audio-block-once : (κs : _) (args : _) (r r′ : _) (exit exit′ : _) → audio-block.Learnt κs args r exit → audio-block.Learnt κs args r′ exit′ → r ≡ r′
 audio-block-once κs args r r′ exit exit′ = no-second-answer
-
-pub closes-once : (κs : _) (args : _) (r r′ : _) (exit exit′ : _) → closes.Learnt κs args r exit → closes.Learnt κs args r′ exit′ → r ≡ r′
-closes-once κs args r r′ exit exit′ = no-second-answer
 
 pub find-once : (κs : _) (args : _) (r r′ : _) (exit exit′ : _) → find.Learnt κs args r exit → find.Learnt κs args r′ exit′ → r ≡ r′
 find-once κs args r r′ exit exit′ = no-second-answer

@@ -439,7 +439,7 @@ fn name_stands(container: &[u8], len: usize) -> bool
 }
 
 // Whether a container closes at a place with these bytes.
-pub fn closes(container: &[u8], place: usize, ends: &[u8]) -> bool
+fn closes(container: &[u8], place: usize, ends: &[u8]) -> bool
     ensures { λ r. ⌜ r ≡ (standsAt (now (ends .entry)) (now (container .entry)) place && eqb (length (now (container .entry)) - place) (length (now (ends .entry)))) ⌝ }
 {
     if signature::stands_at(ends, container, place) {
