@@ -140,7 +140,7 @@ module _ (payload : List ℕ) where
   no-stand false false ends e = refl
   no-stand long true ends e = let z : _≡_ {A = ℕ} 0 1 = cc in absurd (omega arith)
 
-  no-end : (long stands ends : Bool) → ends ≡ true → picked long stands ends ≡ []
+  pub no-end : (long stands ends : Bool) → ends ≡ true → picked long stands ends ≡ []
   no-end long stands true e = ap (λ (t : Bool). cond t payload []) (and-false (not long && stands))
   no-end long stands false e = let z : _≡_ {A = ℕ} 0 1 = cc in absurd (omega arith)
 
