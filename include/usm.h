@@ -85,7 +85,7 @@ void usm_mask_audio(uint64_t key, uint8_t *payload, size_t len);
  *
  *     number        0 where the answer is accepted, another where it is refused, as follows
  *     refused_at    the place that is refused: in a film the start of the block or chunk being read,
- *                   which may lie past the container's end, and 0 beside 2, 11 to 16 and 21 to 23;
+ *                   which may lie past the container's end, and 0 beside 2, 11 to 16 and 19 to 23;
  *                   for a table that is read by itself, the table's own
  *     unknown_type  beside USM_UNKNOWN_TYPE the column type: 7, 9 or 12 to 15
  *
@@ -112,6 +112,8 @@ void usm_mask_audio(uint64_t key, uint8_t *payload, size_t len);
 #define USM_SHORT_ROOM 16     /* the output is too short for what would be written */
 #define USM_SHORT_HEADER 17   /* a header size below 0x18, where payloads stand after their headers */
 #define USM_UNKNOWN_STORAGE 18 /* a column's high nibble is none of 1, 3, 5 and 7, where these are the only ones */
+#define USM_FOREIGN 19        /* not a film of the old builder, or not a container that was moved from one */
+#define USM_MANY_AUDIOS 20    /* a film of the old builder with more than one audio */
 #define USM_NO_BEGINNING 21   /* no beginning of the container is accepted */
 #define USM_BAD_TENANTS 22    /* no tenant, over 16, or a number twice */
 #define USM_CODEC_ALONE 23    /* an audio codec is given, and no audio */
@@ -206,6 +208,10 @@ static inline const char *usm_reason(uint8_t number)
         return "a header that is too short";
     case USM_UNKNOWN_STORAGE:
         return "unknown storage of a column";
+    case USM_FOREIGN:
+        return "not a film of the old builder, nor moved from one";
+    case USM_MANY_AUDIOS:
+        return "a film of the old builder with more than one audio";
     case USM_NO_BEGINNING:
         return "no beginning is accepted";
     case USM_BAD_TENANTS:
@@ -425,6 +431,48 @@ struct usm_packing {
 struct usm_size_reply usm_write(const uint8_t *name, size_t name_len, const uint8_t *video,
                                 size_t video_len, const uint8_t *audio, size_t audio_len,
                                 struct usm_packing packing, uint8_t *out, size_t out_len);
+
+/*
+ * Films of the old builder, the original's UsmBuilder. No extractor reads its container, the original's
+ * neither: it is moved to that of usm_write. Payloads travel as they are stored, so no key is needed, and
+ * a film whose payloads are masked is one whose payloads are masked after it, under the same key.
+ */
+
+/*
+ * The codecs of a film. 12 bytes.
+ *
+ *     video_codec, audio_codec
+ *                      as in usm_packing; the builder's container has none
+ *     has_video_codec, has_audio_codec
+ *                      0: no codec is given, and its number is not looked at. Every other number: it is
+ */
+struct usm_codecs {
+    uint32_t video_codec;
+    uint32_t audio_codec;
+    uint8_t has_video_codec;
+    uint8_t has_audio_codec;
+};
+
+/*
+ * Moves a film of the old builder to the container of usm_write: what usm_write makes of its name and of
+ * its streams as they are stored, with these codecs and without a key.
+ *
+ * Of the numbers it gives, in this order: USM_TOO_LONG for the container; USM_FOREIGN, where it is not
+ * byte for byte what the builder writes for some name, video and audios; USM_MANY_AUDIOS; then those of
+ * usm_write for the result. `refused_at` is 0 beside each.
+ */
+struct usm_size_reply usm_from_old(const uint8_t *container, size_t len, struct usm_codecs codecs,
+                                   uint8_t *out, size_t out_len);
+
+/*
+ * Moves a film back: the bytes that usm_from_old was given (proved). Moving these again with the codecs
+ * that the container has gives the container (proved).
+ *
+ * Of the numbers it gives, in this order: USM_TOO_LONG for the container; USM_FOREIGN, where usm_from_old
+ * writes it from no film; USM_SHORT_ROOM. `refused_at` is 0 beside each. The builder's film is never the
+ * longer one.
+ */
+struct usm_size_reply usm_to_old(const uint8_t *container, size_t len, uint8_t *out, size_t out_len);
 
 /*
  * Uploads that stopped early.

@@ -1,2 +1,3 @@
+mod ReplyLaws
 pub mod OneAnswer
 pub mod Promises

@@ -15,6 +15,8 @@ use Rattle.usm.proofs.jumps.usm_index.Reads as usm-index
 use Rattle.usm.proofs.jumps.usm_seek.Reads as usm-seek
 use Rattle.usm.proofs.profiles.usm_profile.Reads as usm-profile
 use Rattle.usm.proofs.writing.usm_write.Reads as usm-write
+use Rattle.usm.proofs.moving.usm_from_old.Reads as usm-from-old
+use Rattle.usm.proofs.moving.usm_to_old.Reads as usm-to-old
 use Rattle.usm.proofs.salvaging.usm_salvage.Reads as usm-salvage
 use Rattle.usm.proofs.tables.usm_csv.Reads as usm-csv
 use Rattle.usm.proofs.stating.usm_statement.Reads as usm-statement
@@ -32,6 +34,14 @@ usm-extract-once κs args r r′ exit exit′ l l′ = (no-second-answer (l .0) 
 pub usm-write-once : (κs : _) (args : _) (r r′ : _) (exit exit′ : _) → usm-write.Learnt κs args r exit → usm-write.Learnt κs args r′ exit′
     → (r ≡ r′) × (exit .1 .1 .1 .1 .0 .now ≡ exit′ .1 .1 .1 .1 .0 .now)
 usm-write-once κs args r r′ exit exit′ l l′ = (no-second-answer (l .0) (l′ .0), no-second-answer (l .1) (l′ .1))
+
+pub usm-from-old-once : (κs : _) (args : _) (r r′ : _) (exit exit′ : _) → usm-from-old.Learnt κs args r exit → usm-from-old.Learnt κs args r′ exit′
+    → (r ≡ r′) × (exit .1 .1 .0 .now ≡ exit′ .1 .1 .0 .now)
+usm-from-old-once κs args r r′ exit exit′ l l′ = (no-second-answer (l .0) (l′ .0), no-second-answer (l .1) (l′ .1))
+
+pub usm-to-old-once : (κs : _) (args : _) (r r′ : _) (exit exit′ : _) → usm-to-old.Learnt κs args r exit → usm-to-old.Learnt κs args r′ exit′
+    → (r ≡ r′) × (exit .1 .0 .now ≡ exit′ .1 .0 .now)
+usm-to-old-once κs args r r′ exit exit′ l l′ = (no-second-answer (l .0) (l′ .0), no-second-answer (l .1) (l′ .1))
 
 pub usm-salvage-once : (κs : _) (args : _) (r r′ : _) (exit exit′ : _) → usm-salvage.Learnt κs args r exit → usm-salvage.Learnt κs args r′ exit′ → r ≡ r′
 usm-salvage-once κs args r r′ exit exit′ = no-second-answer

@@ -1,4 +1,5 @@
 pub mod Exports
 pub mod Writes
+pub mod Moves
 pub mod Tables
 pub mod Promises

@@ -18,7 +18,7 @@ pub struct PackingBytes {
 }
 
 // A codec as C gives it.
-fn codec_by(given: u8, number: u32) -> Codec
+pub(crate) fn codec_by(given: u8, number: u32) -> Codec
     ensures { λ r. ⌜ r ≡ codecBy given number ⌝ }
 {
     if given == 0 {
