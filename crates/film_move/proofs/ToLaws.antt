@@ -65,7 +65,7 @@ module _ (name video : List ℕ) (audio : Bool) (sound : List ℕ) (silent : aud
   abbrev laid : List ℕ
   laid = first ++ (blocks (length video) audio ++ (chunksOf Old video sound ++ ends))
 
-  pub old-laid : oldBytes name video (audiosOf audio sound) ≡ laid
+  old-laid : oldBytes name video (audiosOf audio sound) ≡ laid
   unfolding oldBytes
   old-laid =
       rw (blocks-same audio sound, ends-same audio sound, turns-same-old audio video sound silent)
@@ -104,18 +104,18 @@ module _ (c : List ℕ) where
   unfolding foundIn
   is-film film e = film-told (isNew c) film (filmBy (partsOf c)) e
 
-  pub is-foreign : foundIn c ≡ Foreign → isNew c ≡ false
+  is-foreign : foundIn c ≡ Foreign → isNew c ≡ false
   unfolding foundIn
   is-foreign e = none-told (isNew c) (filmBy (partsOf c)) e
 
   abbrev P : Parts
   P = partsOf c
 
-  read-is : P .read ≡ readIn New (P .packing .audio) (drop (P .start) c)
+  pub read-is : P .read ≡ readIn New (P .packing .audio) (drop (P .start) c)
   unfolding partsOf
   read-is = refl
 
-  name-few : length (P .name) ≤ length c
+  pub name-few : length (P .name) ≤ length c
   unfolding partsOf
   name-few = read.name-few c (headerBy (answerIn c) .name)
 
@@ -127,7 +127,7 @@ module _ (c : List ℕ) where
     unfolding isNew partsOf
     is-rebuilt = by-answer c (answerIn c) t
 
-    pub name-is : partAt c 86 (length (P .name)) ≡ P .name
+    name-is : partAt c 86 (length (P .name)) ≡ P .name
     unfolding filmBytes
     name-is =
         ap (λ (l : List ℕ). partAt l 86 (length (P .name))) (is-rebuilt .1)
@@ -147,7 +147,7 @@ module _ (c : List ℕ) where
             omega (arith, f, l, h, ap (λ (f : NewFilm). f .turns .audio) e),
           )
 
-      pub moved-is : (chunks : List ℕ) → chunks ≡ partAt c (film .start) (length c - film .start)
+      moved-is : (chunks : List ℕ) → chunks ≡ partAt c (film .start) (length c - film .start)
           → movedFrom New Old (film .packing .audio) chunks ≡ chunksOf Old (P .read .video) (P .read .audio)
       unfolding movedFrom
       moved-is chunks h =

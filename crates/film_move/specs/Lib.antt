@@ -1,3 +1,4 @@
 pub mod Moving
 pub mod FromOld
 pub mod ToOld
+pub mod Promises

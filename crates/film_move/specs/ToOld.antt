@@ -1,4 +1,4 @@
--- Rule O11: from request 1's container to the builder's. "Payloads travel as stored", and what the builder's container does not say, its codecs, is left out.
+-- Rule O11: from request 1's container to the builder's. "Payloads travel as stored"; the codecs, for which the builder has no place, are left out.
 use Prim.Native.Nat.{ℕ}
 use mathlib.Core.Path.{_≡_}
 use mathlib.Core.List.{List}
@@ -18,8 +18,8 @@ use Rattle.new_film.specs.Finding.{Parts, partsOf, isNew}
 abbrev pub oldOf : Parts → List ℕ
 oldOf parts = oldBytes (parts .name) (parts .read .video) (audiosOf (parts .packing .audio) (parts .read .audio))
 
--- "Refusals, after 11: 19 .. a container the move did not write; .. 16". Of the others none can arise: the builder's film is never longer than the container, the
--- codecs are the container's own, and it has one audio at most, in which no payload begins with the end marker
+-- "Refusals, after 11: 19 .. a container the move did not write; .. 16". None of the others can arise: the builder's film is never longer than the container, which has at
+-- most one audio, no audio codec without it, and no payload that begins with the end marker
 unfoldable pub toOld : List ℕ → Written
 toOld container =
     cond (ltb 0x40000000 (length container)) (refusedBy TooLong) (cond (isNew container) (Size (length (oldOf (partsOf container)))) (refusedBy Foreign))
