@@ -1,2 +1,4 @@
 pub mod PartingLaws
+pub mod ApartLaws
+pub mod Promises
 pub mod OneAnswer

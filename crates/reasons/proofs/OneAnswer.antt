@@ -2,10 +2,10 @@
 use mathlib.Core.Path.{_≡_}
 use Rattle.laws.proofs.OneAnswer.{no-second-answer}
 use Rattle.reasons.proofs.why_one.Reads as why-one
-use Rattle.reasons.proofs.parting_from.Reads as parting-from
+use Rattle.reasons.proofs.first_apart.Reads as first-apart
 
 pub why-one-once : (κs : _) (args : _) (r r′ : _) (exit exit′ : _) → why-one.Learnt κs args r exit → why-one.Learnt κs args r′ exit′ → r ≡ r′
 why-one-once κs args r r′ exit exit′ = no-second-answer
 
-pub parting-from-once : (κs : _) (args : _) (r r′ : _) (exit exit′ : _) → parting-from.Learnt κs args r exit → parting-from.Learnt κs args r′ exit′ → r ≡ r′
-parting-from-once κs args r r′ exit exit′ = no-second-answer
+pub first-apart-once : (κs : _) (args : _) (r r′ : _) (exit exit′ : _) → first-apart.Learnt κs args r exit → first-apart.Learnt κs args r′ exit′ → r ≡ r′
+first-apart-once κs args r r′ exit exit′ = no-second-answer

@@ -7,9 +7,9 @@ use Rattle.laws.specs.Lists.{at}
 use Rattle.key.specs.KeyTable.{tableT}
 use Rattle.mask.specs.Positions.{videoDiffers, audioDiffers}
 use Rattle.chunk.specs.declared.Kind.{Kind}
-use Rattle.chunk.specs.declared.Kind.the-variants.{Video, Audio, Other, End}
 use Rattle.chunk.specs.declared.Chunk.{Chunk}
 use Rattle.walk.specs.Walks.{videoIn, audioIn}
+use Rattle.reasons.specs.declared.Place.{Place}
 use Rattle.reasons.specs.declared.Stream.{Stream}
 use Rattle.reasons.specs.declared.Stream.the-variants.{Picture, Sound}
 
@@ -52,3 +52,9 @@ partingBy stream adx t u (chunk ∷ chunks) =
 
 abbrev pub partingOf : Stream → Bool → ℕ → ℕ → List Chunk → ℕ
 partingOf stream adx key key′ chunks = partingBy stream adx (tableT key) (tableT key′) chunks
+
+-- the byte that is named: of the picture where it differs, else of the sound
+abbrev pub firstApart : ℕ → Bool → ℕ → ℕ → List Chunk → Place
+firstApart size adx key key′ chunks =
+    cond (ltb (partingOf Picture adx key key′ chunks) size) (record { stream = Picture; byte = partingOf Picture adx key key′ chunks })
+    (record { stream = Sound; byte = partingOf Sound adx key key′ chunks })

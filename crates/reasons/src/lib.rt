@@ -8,7 +8,7 @@ ghost use Rattle.laws.specs.Lists.{at};
 ghost use Rattle.mask.specs.Positions.{headRowDiffers, videoDiffers, audioDiffers};
 ghost use Rattle.walk.specs.Walks.{walkFrom};
 ghost use Rattle.reasons.specs.Reasons.{whyOf};
-ghost use Rattle.reasons.specs.Partings.{differsIn, partsAt, firstBy, partIn, isMaskedIn, partingIn, partingOf};
+ghost use Rattle.reasons.specs.Partings.{differsIn, partsAt, firstBy, partIn, isMaskedIn, partingIn, partingOf, firstApart};
 use chunk::Chunk;
 use chunk::ChunkStep;
 use chunk::Kind;
@@ -31,6 +31,12 @@ pub enum Why {
 pub enum Stream {
     Picture,
     Sound,
+}
+
+// A byte of one of them, counted from 0.
+pub struct Place {
+    pub stream: Stream,
+    pub byte: usize,
 }
 
 // A shorter picture is not masked.
@@ -179,7 +185,7 @@ fn parting_in(stream: Stream, adx: bool, keys: Keys, others: Keys, chunk: Chunk)
 }
 
 // The first byte of a stream that differs under two keys, or the stream's size, of the chunks from a place on.
-pub fn parting_from(
+fn parting_from(
     container: &[u8],
     place: usize,
     reading: Applied,
@@ -213,5 +219,31 @@ pub fn parting_from(
                 return passed;
             }
         }
+    }
+}
+
+// The first byte that differs under two keys: of the picture, or of the sound where no byte of the picture does. `size` is the
+// picture's, and the chunks are those from a place on.
+pub fn first_apart(
+    container: &[u8],
+    place: usize,
+    reading: Applied,
+    adx: bool,
+    size: usize,
+    key: u64,
+    other: u64,
+) -> Place
+    ensures { λ r. ⌜ r ≡ firstApart size adx key other (walkFrom (now (container .entry)) reading place .chunks) ⌝ }
+{
+    let picture = parting_from(container, place, reading, adx, Stream::Picture, key, other);
+    if picture < size {
+        return Place {
+            stream: Stream::Picture,
+            byte: picture,
+        };
+    }
+    Place {
+        stream: Stream::Sound,
+        byte: parting_from(container, place, reading, adx, Stream::Sound, key, other),
     }
 }

@@ -10,6 +10,7 @@ use libc::STDOUT_FILENO;
 use list::ListReply;
 use reading::Applied;
 use reading::AudioChoice;
+use reasons::Place;
 use reasons::Stream;
 use reasons::Why;
 
@@ -115,17 +116,15 @@ fn print_marks(key: u64, other: u64) {
     }
 }
 
-// Prints the first byte of the streams that differs, by the first of each stream.
-fn print_parting(told: Told, picture: usize, sound: usize) {
-    if picture < told.video {
-        print(b"  first byte that differs: ");
-        print_number(picture as u64);
-        print(b" of the picture\n");
-        return;
-    }
+// Prints the first byte of the streams that differs.
+fn print_parting(place: Place) {
+    let stream = place.stream;
     print(b"  first byte that differs: ");
-    print_number(sound as u64);
-    print(b" of the sound\n");
+    print_number(place.byte as u64);
+    match stream {
+        Stream::Picture => print(b" of the picture\n"),
+        Stream::Sound => print(b" of the sound\n"),
+    }
 }
 
 // Prints where a group parts from the one before it, by their keys.
@@ -140,25 +139,15 @@ fn print_apart(container: &[u8], told: Told, key: u64, other: u64) {
     print(b"\n                ");
     print_marks(key, other);
     print(b"\n");
-    let picture = reasons::parting_from(
+    print_parting(reasons::first_apart(
         container,
         told.start,
         reading,
         told.adx,
-        Stream::Picture,
+        told.video,
         key,
         other,
-    );
-    let sound = reasons::parting_from(
-        container,
-        told.start,
-        reading,
-        told.adx,
-        Stream::Sound,
-        key,
-        other,
-    );
-    print_parting(told, picture, sound);
+    ));
 }
 
 // Prints what is told of a group, after so many others of which the last has this lowest tenant.
