@@ -3,5 +3,6 @@ pub mod CellOnLaws
 pub mod CellPutLaws
 pub mod LineLaws
 pub mod WriteLaws
+pub mod CellReadLaws
 pub mod Promises
 pub mod OneAnswer

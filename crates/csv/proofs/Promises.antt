@@ -1,4 +1,5 @@
--- The promises of specs/Promises.antt, each under its name: what was written stands at the front of the output, and the RFC's reader gives back its records. Assumes nothing.
+-- The promises of specs/Promises.antt, each under its name: what was written stands at the front of the output, and the RFC's reader gives back its records; and
+-- a walk that reads to its end has no cell that is refused. Assumes nothing.
 use mathlib.Core.Path.{_≡_, refl, sym, ap, _∙_}
 use mathlib.Core.List.{List, [], _∷_}
 use mathlib.Core.Bool.{Bool, true, false, cond}
@@ -15,7 +16,8 @@ use Rattle.layout.specs.declared.Layout.{Layout}
 use Rattle.layout.specs.Layouts.{bodyOf}
 use Rattle.table.specs.declared.TableAnswer.{TableAnswer}
 use Rattle.table.specs.declared.TableAnswer.the-variants.{Table, NoTable}
-use Rattle.table.specs.Tables.{tableAt}
+use Rattle.table.specs.Tables.{tableOf, tableAt}
+use Rattle.table.proofs.TableLaws.{laid-out}
 use Rattle.csv_text.specs.Written.{csvOf}
 use Rattle.csv_text.specs.Reading.{recordsIn}
 use Rattle.csv_text.specs.Promises.{SomeInEach}
@@ -25,6 +27,7 @@ use Rattle.csv.specs.declared.Line.the-variants.{Names, Cells}
 use Rattle.csv.specs.Texts.{lineFrom, rowEnd, rowTexts, nameTexts, textsOf}
 use Rattle.csv.specs.Writing.{textsIn, textsAt, toWrite}
 use Rattle.csv.specs.Promises as promised
+use Rattle.csv.proofs.CellReadLaws.{all-read}
 
 -- ---- every record of a table with columns has a field
 
@@ -72,3 +75,9 @@ ReadingBack bytes place m out out′ size w =
     let room : 0 + length csv ≤ length out = omega (arith, planned .1) in
     let front : take size out′ ≡ csv = ap (take size) (w .1 ∙ sets-eq csv out 0 room) ∙ take-at csv (drop (0 + length csv) out) size sized in
     ap recordsIn front ∙ FieldsReadBack (textsAt bytes place m) (at-some bytes place m)
+
+pub EveryCellIsRead : promised.EveryCellIsRead
+unfolding tableOf
+EveryCellIsRead bytes place m l e =
+    let t = drop place bytes in
+    all-read place l (bodyOf t l) (rw (laid-out place t m l e) at e)

@@ -33,7 +33,7 @@ textOf b (NotANumber bits) = hex 8 bits
 textOf b (Text start len) = partAt b start len
 textOf b (Data start len) = hexBytes (partAt b start len)
 
--- the text of a cell that is read. A table that is accepted has no other
+-- the text of a cell that is read. A table that is accepted has no other, as `EveryCellIsRead` says
 abbrev pub textIn : List ℕ → CellAnswer → List ℕ
 textIn b (Got c) = textOf b c
 textIn b (Refused why) = []
