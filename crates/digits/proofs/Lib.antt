@@ -1,4 +1,5 @@
 pub mod TypedLaws
 pub mod DigitLaws
 pub mod Promises
+pub mod Examples
 pub mod OneAnswer

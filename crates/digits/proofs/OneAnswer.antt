@@ -3,6 +3,7 @@ use mathlib.Core.Path.{_≡_}
 use Rattle.laws.proofs.OneAnswer.{no-second-answer}
 use Rattle.digits.proofs.read_key.Reads as read-key
 use Rattle.digits.proofs.read_length.Reads as read-length
+use Rattle.digits.proofs.read_tenant.Reads as read-tenant
 use Rattle.digits.proofs.digit_of.Reads as digit-of
 use Rattle.digits.proofs.digit_counts.Reads as digit-counts
 use Rattle.digits.proofs.digits_differ.Reads as digits-differ
@@ -13,6 +14,9 @@ read-key-once κs args r r′ exit exit′ = no-second-answer
 
 pub read-length-once : (κs : _) (args : _) (r r′ : _) (exit exit′ : _) → read-length.Learnt κs args r exit → read-length.Learnt κs args r′ exit′ → r ≡ r′
 read-length-once κs args r r′ exit exit′ = no-second-answer
+
+pub read-tenant-once : (κs : _) (args : _) (r r′ : _) (exit exit′ : _) → read-tenant.Learnt κs args r exit → read-tenant.Learnt κs args r′ exit′ → r ≡ r′
+read-tenant-once κs args r r′ exit exit′ = no-second-answer
 
 pub digit-of-once : (κs : _) (args : _) (r r′ : _) (exit exit′ : _) → digit-of.Learnt κs args r exit → digit-of.Learnt κs args r′ exit′ → r ≡ r′
 digit-of-once κs args r r′ exit exit′ l l′ = no-second-answer (l .0) (l′ .0)

@@ -2,15 +2,13 @@
 use mathlib.Core.Path.{_≡_, refl, sym, _∙_}
 use mathlib.Core.Bool.{true, false, false≢true, and-false}
 use mathlib.Core.List.{List, [], _∷_}
-use Prim.Native.Nat.{ℕ, _+_, _-_, _*_, _^_, _≤_, _<_}
+use Prim.Native.Nat.{ℕ, _+_, _-_, _*_, _/_, _^_, _≤_, _<_}
 use native.Mathlib.Omega.{arith}
 use native.Mathlib.Numerals.{add-one}
-use native.Mathlib.Nat.{lt-of-lt-of-le, lt-of-le-of-lt, mul-le-mul-left}
+use native.Mathlib.Nat.{le-div-iff-mul-le, div-lt-iff-lt-mul}
 use borrow.Author.Tests.{le-leb, lt-leb, lt-ltb, le-ltb, eq-eqb, ne-eqb}
-use lib.Arith.{digits-lt}
 use lib.Dec.{eqb}
 use lib.ListN.{length, getD, take, drop, length-drop}
-use lib.Pow.{pow-mono, pow-add}
 use lib.Seq.{drop-cons, drop-length, take-all}
 use Rattle.digits.specs.declared.Typed.the-variants.{Number, NoNumber}
 use Rattle.digits.specs.TypedNumbers.{between, hexValue, prefixed, valueFrom, digitsRead, numberTyped}
@@ -82,56 +80,51 @@ pub no-small-x : (word : List ℕ) → getD word 0 0 ≡ 0x30 → (getD word 1 0
 unfolding prefixed
 no-small-x word e h = simp (eq-eqb (getD word 0 0) 0x30 e, ne-eqb (getD word 1 0) 0x78 h)
 
--- one more digit, a byte that is no digit, and the end of the digits
+-- one more digit, a byte that is no digit, a number that has more than 64 bits, and the end of the digits
 module _ (base value digit : ℕ) (digits : List ℕ) (i : ℕ) (h : i < length digits) (e : digit ≡ hexValue (getD digits i 0)) where
-  pub next-digit : digit < base → valueFrom base (value * base + digit) (drop (i + 1) digits) ≡ valueFrom base value (drop i digits)
+  pub next-digit : digit < base → value * base + digit < 2 ^ 64 → valueFrom base (value * base + digit) (drop (i + 1) digits) ≡ valueFrom base value (drop i digits)
   unfolding valueFrom
-  next-digit l = rw (add-one, drop-cons digits i 0 h, ← e) (simp (lt-ltb digit base l))
+  next-digit l f = rw (add-one, drop-cons digits i 0 h, ← e) (simp (lt-ltb digit base l, lt-ltb (value * base + digit) (2 ^ 64) f))
 
   pub no-digit : base ≤ digit → NoNumber ≡ valueFrom base value (drop i digits)
   unfolding valueFrom
   no-digit l = rw (drop-cons digits i 0 h, ← e) (simp (le-ltb digit base l))
 
+  pub too-large : 2 ^ 64 ≤ value * base + digit → NoNumber ≡ valueFrom base value (drop i digits)
+  unfolding valueFrom
+  too-large f = rw (drop-cons digits i 0 h, ← e) (simp (le-ltb (value * base + digit) (2 ^ 64) f, and-false))
+
 pub no-more : (base value : ℕ) (digits : List ℕ) (i : ℕ) → i ≡ length digits → Number value ≡ valueFrom base value (drop i digits)
 unfolding valueFrom
 no-more base value digits i e = rw (e, drop-length)
 
--- a value of i digits, with one more, in a base of at most 16
-module _ (base value : ℕ) (b : base ≤ 16) where
-  at-most : value * base ≤ value * 16
-  at-most = mul-le-mul-left value b
+-- whether a value with one more digit has 64 bits, asked by a quotient
+module _ (base value digit : ℕ) (b : 0 < base) (small : base ≤ 16) (d : digit < base) where
+  pub fits-64 : value ≤ (2 ^ 64 - 1 - digit) / base → value * base + digit < 2 ^ 64
+  fits-64 h = let l = le-div-iff-mul-le b .0 h in omega arith
 
-  pub grows : (digit i : ℕ) → value < 2 ^ (4 * i) → digit < base → value * base + digit < 2 ^ (4 * (i + 1))
-  grows digit i h l =
-      let e : 4 * (i + 1) ≡ 4 * i + 4 = omega arith in
-      let most : value * base + digit ≤ value * 16 + digit = omega (arith, at-most) in
-      rw (e, pow-add 2 (4 * i) 4) (lt-of-le-of-lt most (digits-lt h (lt-of-lt-of-le l b)))
+  pub past-64 : (2 ^ 64 - 1 - digit) / base < value → 2 ^ 64 ≤ value * base + digit
+  past-64 h = let l = div-lt-iff-lt-mul b .0 h in omega arith
 
-  pub fits-64 : (i : ℕ) → value < 2 ^ (4 * i) → i < 16 → value * base + 16 ≤ 2 ^ 64
-  fits-64 i h l =
-      let most : 4 * i ≤ 60 = omega arith in
-      let small : value < 2 ^ 60 = lt-of-lt-of-le h (pow-mono most) in
-      omega (arith, at-most)
-
--- 1 to 16 digits, and the part after `0x`
-module _ (base : ℕ) where
-  pub none-typed : (digits : List ℕ) → length digits ≡ 0 → digitsRead base digits ≡ NoNumber
+-- one digit to so many, and the part after `0x`
+module _ (base most : ℕ) where
+  pub none-typed : (digits : List ℕ) → length digits ≡ 0 → digitsRead base most digits ≡ NoNumber
   unfolding digitsRead
-  none-typed digits e = simp (below 1 16 (length digits) (omega arith))
+  none-typed digits e = simp (below 1 most (length digits) (omega arith))
 
-  pub too-many : (digits : List ℕ) → 16 < length digits → digitsRead base digits ≡ NoNumber
+  pub too-many : (digits : List ℕ) → most < length digits → digitsRead base most digits ≡ NoNumber
   unfolding digitsRead
-  too-many digits h = simp (above 1 16 (length digits) h)
+  too-many digits h = simp (above 1 most (length digits) h)
 
-  pub well-many : (digits : List ℕ) → 1 ≤ length digits → length digits ≤ 16 → digitsRead base digits ≡ valueFrom base 0 digits
+  pub well-many : (digits : List ℕ) → 1 ≤ length digits → length digits ≤ most → digitsRead base most digits ≡ valueFrom base 0 digits
   unfolding digitsRead
-  well-many digits h l = simp (inside 1 16 (length digits) h l)
+  well-many digits h l = simp (inside 1 most (length digits) h l)
 
-  pub after-prefix : (word : List ℕ) → prefixed word ≡ true → numberTyped base word ≡ digitsRead 16 (drop 2 word)
+  pub after-prefix : (word : List ℕ) → prefixed word ≡ true → numberTyped base most word ≡ digitsRead 16 16 (drop 2 word)
   unfolding numberTyped
   after-prefix word e = simp e
 
-  pub no-prefix : (word : List ℕ) → prefixed word ≡ false → numberTyped base word ≡ digitsRead base word
+  pub no-prefix : (word : List ℕ) → prefixed word ≡ false → numberTyped base most word ≡ digitsRead base most word
   unfolding numberTyped
   no-prefix word e = simp e
 

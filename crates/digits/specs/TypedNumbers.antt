@@ -1,6 +1,6 @@
--- A key as it is typed: "1 to 16 hex digits, `0x` allowed, either case"; and a length: 1 to 16 digits, which are hex after `0x` and
--- decimal without it. Assumes nothing.
-use Prim.Native.Nat.{ℕ, _+_, _-_, _*_}
+-- A key as it is typed: "1 to 16 hex digits, `0x` allowed, either case"; a length: 1 to 16 digits, which are hex after `0x` and
+-- decimal without it; and a tenant's number, which may have 20 decimal digits. Assumes nothing.
+use Prim.Native.Nat.{ℕ, _+_, _-_, _*_, _^_}
 use mathlib.Core.Bool.{Bool, cond, _&&_, _||_}
 use mathlib.Core.List.{List, [], _∷_}
 use lib.Dec.{leb, ltb, eqb}
@@ -23,21 +23,26 @@ hexValue byte =
 unfoldable pub prefixed : List ℕ → Bool
 prefixed word = eqb (getD word 0 0) 0x30 && (eqb (getD word 1 0) 0x78 || eqb (getD word 1 0) 0x58)
 
--- the number that digits of a base write after a value; none where one of them is no digit
+-- the number that digits of a base write after a value; none where one of them is no digit, or where it has more than 64 bits
 unfoldable pub valueFrom : ℕ → ℕ → List ℕ → Typed
 valueFrom base value [] = Number value
-valueFrom base value (byte ∷ bytes) = cond (ltb (hexValue byte) base) (valueFrom base (value * base + hexValue byte) bytes) NoNumber
+valueFrom base value (byte ∷ bytes) =
+    cond (ltb (hexValue byte) base && ltb (value * base + hexValue byte) (2 ^ 64)) (valueFrom base (value * base + hexValue byte) bytes) NoNumber
 
--- 1 to 16 digits
-unfoldable pub digitsRead : ℕ → List ℕ → Typed
-digitsRead base digits = cond (between 1 16 (length digits)) (valueFrom base 0 digits) NoNumber
+-- one digit, and so many at most
+unfoldable pub digitsRead : ℕ → ℕ → List ℕ → Typed
+digitsRead base most digits = cond (between 1 most (length digits)) (valueFrom base 0 digits) NoNumber
 
--- hex digits after `0x` or `0X`; where neither stands in front, the whole word in digits of a base
-unfoldable pub numberTyped : ℕ → List ℕ → Typed
-numberTyped base word = cond (prefixed word) (digitsRead 16 (drop 2 word)) (digitsRead base word)
+-- 1 to 16 hex digits after `0x` or `0X`; where neither stands in front, the whole word in digits of a base
+unfoldable pub numberTyped : ℕ → ℕ → List ℕ → Typed
+numberTyped base most word = cond (prefixed word) (digitsRead 16 16 (drop 2 word)) (digitsRead base most word)
 
 abbrev pub keyTyped : List ℕ → Typed
-keyTyped = numberTyped 16
+keyTyped = numberTyped 16 16
 
 abbrev pub lengthTyped : List ℕ → Typed
-lengthTyped = numberTyped 10
+lengthTyped = numberTyped 10 16
+
+-- ours: a tenant's number is one of 64 bits, and those have up to 20 decimal digits
+abbrev pub tenantTyped : List ℕ → Typed
+tenantTyped = numberTyped 10 20

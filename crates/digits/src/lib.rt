@@ -1,14 +1,14 @@
 // A key as an operator knows it: 1 to 16 hex digits. It is read as it was typed, taken apart into
-// its digits, and set beside a second one; a clip's length is read too. No rule of this crate comes from the
+// its digits, and set beside a second one; a clip's length and a tenant's number are read too. No rule of this crate comes from the
 // Rust: the rules rest on the bits of a key that count, and specs/Promises.antt says how.
 ghost use mathlib.Core.Path.{_≡_};
 ghost use Prim.Native.Nat.{_≤_, _<_};
 ghost use lib.ListN.{length};
-ghost use Rattle.digits.specs.TypedNumbers.{hexValue, prefixed, valueFrom, digitsRead, numberTyped, keyTyped, lengthTyped};
+ghost use Rattle.digits.specs.TypedNumbers.{hexValue, prefixed, valueFrom, digitsRead, numberTyped, keyTyped, lengthTyped, tenantTyped};
 ghost use Rattle.digits.specs.KeyDigits.{digitAt, digitCounts, digitsDiffer};
 ghost use Rattle.digits.specs.Verdicts.{verdictOn};
 
-// What a word is that was typed as a key or as a length.
+// What a word is that was typed as a number.
 pub enum Typed {
     Number(u64),
     NoNumber,
@@ -23,6 +23,12 @@ pub enum Verdict {
 
 // A key has this many hex digits.
 pub const PLACES: usize = 16;
+
+// The largest number of 64 bits has this many decimal digits.
+const DECIMALS: usize = 20;
+
+// It is this one.
+const LARGEST: u64 = 0xFFFFFFFFFFFFFFFF;
 
 // The value of a hex digit is below this; a byte that is no hex digit has this value.
 const HEX: u64 = 16;
@@ -65,9 +71,9 @@ fn is_prefixed(word: &[u8]) -> bool
     word[1] == b'X'
 }
 
-// The number that at most 16 bytes write, if all of them are digits of a base.
+// The number that bytes write, if all of them are digits of a base and it has 64 bits at most.
 fn value_of(digits: &[u8], base: u64) -> Typed
-    requires { ⌜ (length (now digits) ≤ 16) × (base ≤ 16) ⌝ }
+    requires { ⌜ (0 < base) × (base ≤ 16) ⌝ }
     ensures { λ r. ⌜ r ≡ valueFrom base 0 (now (digits .entry)) ⌝ }
 {
     let mut value = 0;
@@ -77,49 +83,59 @@ fn value_of(digits: &[u8], base: u64) -> Typed
         if base <= digit {
             return Typed::NoNumber;
         }
+        if (LARGEST - digit) / base < value {
+            return Typed::NoNumber;
+        }
         value = value * base + digit;
         at += 1;
     }
     Typed::Number(value)
 }
 
-// A number from its digits. A word with too many is refused unread.
-fn read_digits(digits: &[u8], base: u64) -> Typed
-    requires { ⌜ base ≤ 16 ⌝ }
-    ensures { λ r. ⌜ r ≡ digitsRead base (now (digits .entry)) ⌝ }
+// A number from its digits, so many at most. A word with too many is refused unread.
+fn read_digits(digits: &[u8], base: u64, most: usize) -> Typed
+    requires { ⌜ (0 < base) × (base ≤ 16) ⌝ }
+    ensures { λ r. ⌜ r ≡ digitsRead base most (now (digits .entry)) ⌝ }
 {
     if digits.len() == 0 {
         return Typed::NoNumber;
     }
-    if PLACES < digits.len() {
+    if most < digits.len() {
         return Typed::NoNumber;
     }
     value_of(digits, base)
 }
 
-// A number as typed: hex after `0x` or `0X`, and where neither stands in front in digits of a base.
-fn read_number(word: &[u8], base: u64) -> Typed
-    requires { ⌜ base ≤ 16 ⌝ }
-    ensures { λ r. ⌜ r ≡ numberTyped base (now (word .entry)) ⌝ }
+// A number as typed: hex after `0x` or `0X`, and where neither stands in front in so many digits of a base at most.
+fn read_number(word: &[u8], base: u64, most: usize) -> Typed
+    requires { ⌜ (0 < base) × (base ≤ 16) ⌝ }
+    ensures { λ r. ⌜ r ≡ numberTyped base most (now (word .entry)) ⌝ }
 {
     if is_prefixed(word) {
-        return read_digits(&word[2..], HEX);
+        return read_digits(&word[2..], HEX, PLACES);
     }
-    read_digits(word, base)
+    read_digits(word, base, most)
 }
 
 // A key as typed: 1 to 16 hex digits of either case, with or without `0x` or `0X` in front.
 pub fn read_key(word: &[u8]) -> Typed
     ensures { λ r. ⌜ r ≡ keyTyped (now (word .entry)) ⌝ }
 {
-    read_number(word, HEX)
+    read_number(word, HEX, PLACES)
 }
 
 // A clip's length as typed: 1 to 16 decimal digits, or hex digits after `0x` or `0X`.
 pub fn read_length(word: &[u8]) -> Typed
     ensures { λ r. ⌜ r ≡ lengthTyped (now (word .entry)) ⌝ }
 {
-    read_number(word, DECIMAL)
+    read_number(word, DECIMAL, PLACES)
+}
+
+// A tenant's number as typed: 1 to 20 decimal digits that make a number of 64 bits, or hex digits after `0x` or `0X`.
+pub fn read_tenant(word: &[u8]) -> Typed
+    ensures { λ r. ⌜ r ≡ tenantTyped (now (word .entry)) ⌝ }
+{
+    read_number(word, DECIMAL, DECIMALS)
 }
 
 // The hex digit of a key at a place, from 0, the leftmost, to 15, the rightmost; past these it is 0. The

@@ -49,7 +49,7 @@ fn colon(word: &[u8]) -> usize
 
 // A tenant from its number and its key, both as typed.
 fn tenant_by(number: &[u8], key: &[u8]) -> Tenant {
-    let Typed::Number(n) = digits::read_length(number) else {
+    let Typed::Number(n) = digits::read_tenant(number) else {
         return Tenant::None;
     };
     let Typed::Number(k) = digits::read_key(key) else {
@@ -73,8 +73,9 @@ fn print_usage() {
     io::write_all(
         STDOUT_FILENO,
         b"usage: who_pays NUMBER:KEY .. < FILM\n\
-          NUMBER is a tenant's: 1 to 16 decimal digits, or 0x and 1 to 16 hex digits. KEY is its\n\
-          key: 1 to 16 hex digits, with or without 0x. FILM has at most 16384 bytes.\n",
+          NUMBER is a tenant's, of at most 64 bits: 1 to 20 decimal digits, or 0x and 1 to 16 hex\n\
+          digits. KEY is its key: 1 to 16 hex digits, with or without 0x. FILM has at most 16384\n\
+          bytes.\n",
     );
 }
 

@@ -27,8 +27,8 @@ read-digits-requires c κs = search needs
 returns : tie.Need-returns
 returns c =
     let word = c .before .before .before .before .before .args .word .now in
-    c .read-digits .ensures ∙ ap (digitsRead 16) (part-after word 2)
-    ∙ sym (after-prefix _ word (sym (c .before .before .before .is-prefixed .ensures) ∙ c .before .before .if1 .taken))
+    c .read-digits .ensures ∙ ap (digitsRead 16 16) (part-after word 2)
+    ∙ sym (after-prefix _ _ word (sym (c .before .before .before .is-prefixed .ensures) ∙ c .before .before .if1 .taken))
 
 read-digits-requires-2 : tie.Need-read-digits-requires-2
 read-digits-requires-2 c κs = search needs
@@ -36,7 +36,7 @@ read-digits-requires-2 c κs = search needs
 returns-2 : tie.Need-returns-2
 returns-2 c =
     c .read-digits2 .ensures
-    ∙ sym (no-prefix _ (c .before .before .before .before .args .word .now) (sym (c .before .before .is-prefixed .ensures) ∙ c .before .if1 .left))
+    ∙ sym (no-prefix _ _ (c .before .before .before .before .args .word .now) (sym (c .before .before .is-prefixed .ensures) ∙ c .before .if1 .left))
 
 pub read-number-spec : {M : Type 1} → statement M
 read-number-spec =
