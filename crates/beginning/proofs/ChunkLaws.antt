@@ -23,19 +23,12 @@ use Rattle.chunk.specs.Chunks.{isTaken, offsetOf, isShort, chunkOf, refusedAt, 
 use Rattle.chunk.proofs.CaseLaws.{over, cut, opened}
 use Rattle.chunk.proofs.FoundLaws.{not-refused, found}
 use Rattle.chunk.proofs.OpeningLaws.{same-opening}
-use Rattle.beginning.specs.Needs.{larger, needOf}
+use Rattle.beginning.specs.Needs.{needOf}
 use Rattle.beginning.proofs.ByteLaws.{longer, taken-kept}
 
 -- whether the payload of the chunk of an opening is taken
 abbrev takes : Applied → Opening → Bool
 takes reading opening = isTaken reading (opening .kind) (opening .channel)
-
--- where the larger of two lies within a bound, both do; where it does not and one does, the other lies past it
-pub both-within : (m n p : ℕ) → larger m n ≤ p → (m ≤ p) × (n ≤ p)
-both-within m n p h = ⊎-elim (λ (g : m < n). let k : n ≤ p = rw (lt-ltb m n g) at h in (omega arith, k)) (λ (g : n ≤ m). let k : m ≤ p = rw (le-ltb m n g) at h in (k, omega arith)) (side m n)
-
-one-past : (m n p : ℕ) → m ≤ p → p < larger m n → p < n
-one-past m n p g h = ⊎-elim (λ (k : m < n). rw (lt-ltb m n k) at h) (λ (k : n ≤ m). let l : p < m = rw (le-ltb m n k) at h in absurd (omega arith)) (side m n)
 
 module _ (s more : List ℕ) (c : ℕ) where
   opening-kept : c + 45 ≤ length s → openingAt (s ++ more) c ≡ openingAt s c
@@ -108,9 +101,8 @@ module _ (s more : List ℕ) (c : ℕ) where
     pub chunk-kept : needOf chunk ≤ length s → chunkAt s reading c ≡ Found chunk
     unfolding openedAt
     chunk-kept h =
-        let w = both-within (chunk .start + 45) (chunk .payload + chunk .len) (length s) h in
-        let whole : c + 45 ≤ length s = omega (arith, w .0, starts) in
-        sym (opened s reading c (omega arith)) ∙ kept-by chunk (openingAt s c) (reading .payloads) (takes reading (openingAt s c)) (by-opening whole) (w .1)
+        let whole : c + 45 ≤ length s = omega (arith, starts) in
+        sym (opened s reading c (omega arith)) ∙ kept-by chunk (openingAt s c) (reading .payloads) (takes reading (openingAt s c)) (by-opening whole) (omega arith)
 
     pub chunk-cut : c + 4 ≤ length s → length s < needOf chunk → chunkAt s reading c ≡ refusedAt c RanOut
     unfolding openedAt
@@ -118,8 +110,7 @@ module _ (s more : List ℕ) (c : ℕ) where
         ⊎-elim
         (λ (g : length s < c + 45). sym (cut s reading c (omega arith) (omega arith)))
         (λ (g : c + 45 ≤ length s).
-        let past = one-past (chunk .start + 45) (chunk .payload + chunk .len) (length s) (omega (arith, starts)) h in
-        sym (opened s reading c (omega arith)) ∙ cut-by chunk (openingAt s c) (reading .payloads) g (takes reading (openingAt s c)) (by-opening g) past)
+        sym (opened s reading c (omega arith)) ∙ cut-by chunk (openingAt s c) (reading .payloads) g (takes reading (openingAt s c)) (by-opening g) (omega (arith, starts)))
         (side (length s) (c + 45))
 
 -- ---- a chunk that is refused

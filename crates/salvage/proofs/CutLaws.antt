@@ -1,6 +1,6 @@
 -- Where a container can be cut. A cut at a chunk start is walked to its end exactly when it holds what the chunks before it need; so the loop's answer
 -- is the last cut that is walked to its end. Assumes nothing.
-use Prim.Native.Nat.{ℕ, _+_, _≤_, _<_}
+use Prim.Native.Nat.{ℕ, _+_, _≤_, _<_, max}
 use mathlib.Core.Path.{_≡_, refl, sym, ap, _∙_}
 use mathlib.Core.List.{List}
 use mathlib.Core.Bool.{Bool, true, false, cond, _&&_}
@@ -9,7 +9,7 @@ use native.Mathlib.Omega.{arith}
 use lib.ListN.{length, take}
 use lib.Seq.{length-take-le}
 use lib.Dec.{leb}
-use borrow.Author.Tests.{le-leb, lt-leb, lt-ltb, le-ltb}
+use borrow.Author.Tests.{le-leb, lt-leb}
 use Rattle.laws.proofs.Side.{side}
 use Rattle.refusal.specs.declared.Refusal.{Refusal}
 use Rattle.reading.specs.declared.Applied.{Applied}
@@ -20,7 +20,7 @@ use Rattle.chunk.proofs.CaseLaws.{over}
 use Rattle.chunk.proofs.FoundLaws.{found}
 use Rattle.walk.specs.Walks.{Walk, Ending, clean, stopped, walkFrom}
 use Rattle.walk.proofs.WalkLaws.{walk-over, walk-found, walk-refused}
-use Rattle.beginning.specs.Needs.{larger, needOf}
+use Rattle.beginning.specs.Needs.{needOf}
 use Rattle.beginning.proofs.ChunkLaws.{refused-there}
 use Rattle.beginning.proofs.Promises.{ChunkOfABeginning, ChunkCutOff}
 use Rattle.salvage.specs.declared.Fit.the-variants.{UpTo}
@@ -36,20 +36,16 @@ isClean (stopped refusal) = false
 -- ---- what is needed
 
 -- with a need more that p holds, nothing changes
-more-held : (need another p : ℕ) → another ≤ p → leb (larger need another) p ≡ leb need p
+more-held : (need another p : ℕ) → another ≤ p → leb (max need another) p ≡ leb need p
 more-held need another p h =
     ⊎-elim
-    (λ (k : need < another). rw (lt-ltb need another k, le-leb another p h, le-leb need p (omega arith)))
-    (λ (k : another ≤ need). rw (le-ltb need another k))
-    (side need another)
+    (λ (k : p < need). rw (lt-leb (max need another) p (omega arith), lt-leb need p k))
+    (λ (k : need ≤ p). rw (le-leb (max need another) p (omega arith), le-leb need p k))
+    (side p need)
 
 -- with one that p does not hold, p does not hold all
-more-lacks : (need another p : ℕ) → p < another → leb (larger need another) p ≡ false
-more-lacks need another p h =
-    ⊎-elim
-    (λ (k : need < another). rw (lt-ltb need another k, lt-leb another p h))
-    (λ (k : another ≤ need). rw (le-ltb need another k, lt-leb need p (omega arith)))
-    (side need another)
+more-lacks : (need another p : ℕ) → p < another → leb (max need another) p ≡ false
+more-lacks need another p h = lt-leb (max need another) p (omega arith)
 
 and-false : (t : Bool) → (t && false) ≡ false
 and-false true = refl
@@ -72,7 +68,7 @@ module _ (s : List ℕ) (reading : Applied) where
 
   -- a chunk before the cut: the cut holds what it needs, and the walk goes on, or it does not
   passes : (c p need : ℕ) (chunk : Chunk) → chunkAt s reading c ≡ Found chunk → c + 8 ≤ p → p ≤ length s
-      → (leb need p && ends p c) ≡ (leb (larger need (needOf chunk)) p && ends p (chunk .next))
+      → (leb need p && ends p c) ≡ (leb (max need (needOf chunk)) p && ends p (chunk .next))
   passes c p need chunk e h k =
       ⊎-elim
       (λ (lacks : p < needOf chunk).
@@ -109,8 +105,8 @@ module _ (s : List ℕ) (reading : Applied) where
     loop-searches (step {c} {chunk} {chunks} {ending} e rest) need best reached =
         let w = found s reading c chunk e in
         let t : ends (chunk .start) start ≡ leb need (chunk .start) = rw (w .start) (here c need reached (omega (arith, w .whole))) in
-        let goes : Reached (chunk .next) (larger need (needOf chunk)) =
+        let goes : Reached (chunk .next) (max need (needOf chunk)) =
         λ p h k. reached p (omega (arith, w .past)) k ∙ passes c p need chunk e (omega (arith, w .past)) k in
-        rw (loop-searches rest (larger need (needOf chunk)) (fitted need best (chunk .start)) goes, t)
+        rw (loop-searches rest (max need (needOf chunk)) (fitted need best (chunk .start)) goes, t)
         (ap (λ (p : ℕ). UpTo p refusal)
         (best-of (lastOf (λ p. ends p start) (startsOf chunks (stopped refusal))) (leb need (chunk .start)) (chunk .start) best))

@@ -1,5 +1,5 @@
 -- The loop that looks for the last cut that fits: what is left to walk has the answer of the whole. Assumes nothing.
-use Prim.Native.Nat.{ℕ}
+use Prim.Native.Nat.{ℕ, max}
 use mathlib.Core.Path.{_≡_}
 use mathlib.Core.List.{List}
 use Rattle.refusal.specs.declared.Refusal.{Refusal}
@@ -9,7 +9,7 @@ use Rattle.chunk.specs.declared.ChunkStep.the-variants.{Over, Found, Refused}
 use Rattle.chunk.specs.Chunks.{chunkAt}
 use Rattle.walk.specs.Walks.{walkFrom}
 use Rattle.walk.proofs.WalkLaws.{walk-over, walk-found, walk-refused}
-use Rattle.beginning.specs.Needs.{larger, needOf}
+use Rattle.beginning.specs.Needs.{needOf}
 use Rattle.salvage.specs.declared.Fit.the-variants.{Whole, UpTo}
 use Rattle.salvage.specs.Fits.{fitted, fitFrom, fitIn}
 
@@ -22,7 +22,7 @@ module _ (container : List ℕ) (reading : Applied) (start c need best : ℕ) (g
   unfolding fitFrom
   fit-over e = rw (walk-over container reading c e) at going
 
-  pub fit-found : (chunk : Chunk) → chunkAt container reading c ≡ Found chunk → Going container reading start (chunk .next) (larger need (needOf chunk)) (fitted need best (chunk .start))
+  pub fit-found : (chunk : Chunk) → chunkAt container reading c ≡ Found chunk → Going container reading start (chunk .next) (max need (needOf chunk)) (fitted need best (chunk .start))
   unfolding fitFrom
   fit-found chunk e = rw (walk-found container reading c chunk e) at going
 

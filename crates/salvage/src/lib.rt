@@ -1,12 +1,12 @@
 // Uploads that stopped early: the longest beginning of a container that is accepted. Request 12.
 // One walk tells which cut holds what the chunks before it need; then the header is read once more, in what that cut leaves.
 ghost use mathlib.Core.Path.{_≡_};
-ghost use Prim.Native.Nat.{_+_, _<_, _^_};
+ghost use Prim.Native.Nat.{_+_, _<_, _^_, max};
 ghost use Rattle.walk.specs.Walks.{walkFrom};
 ghost use Rattle.header.specs.declared.HeaderAnswer.the-variants.{Read};
 ghost use Rattle.header.specs.Headers.{headerOf};
 ghost use Rattle.part.specs.Parts.{partAt};
-ghost use Rattle.beginning.specs.Needs.{larger, needOf};
+ghost use Rattle.beginning.specs.Needs.{needOf};
 ghost use Rattle.salvage.specs.Salvage.{how, cutAs, salvageFrom, salvageOf, keptIn, BeginningOf, salvageReply};
 ghost use Rattle.salvage.specs.Fits.{fitted, fitIn, ifRead};
 use chunk::Chunk;
@@ -51,7 +51,7 @@ const OPENING: usize = 45;
 
 // The larger of two numbers.
 fn larger(m: usize, n: usize) -> usize
-    ensures { λ r. ⌜ r ≡ larger m n ⌝ }
+    ensures { λ r. ⌜ r ≡ max m n ⌝ }
 {
     if m < n {
         return n;
