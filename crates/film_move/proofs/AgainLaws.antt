@@ -34,7 +34,7 @@ use Rattle.new_film.specs.Finding.{answerIn, headerBy, packingBy, isNewBy}
 use Rattle.new_film.specs.Promises as promised
 use Rattle.new_film.proofs.Promises as proved
 use Rattle.new_film.proofs.HeaderLaws.{not-alone}
-use Rattle.film_move.specs.FromOld.{packingOf, newBytes, newPlan, fromOld}
+use Rattle.film_move.specs.FromOld.{packingOf, newBytes, newPlan, causeOf, fromOld}
 use Rattle.film_move.specs.ToOld.{oldOf, toOld}
 use Rattle.film_move.proofs.MarkLaws.{read-marked, read-unmarked}
 use Rattle.film_move.proofs.ToLaws.{read-is, silent, name-few, is-rebuilt}
@@ -64,7 +64,7 @@ module _ (film : List ℕ) (mpeg other : Codec) (n : ℕ) (e : fromOld film mpeg
   unfolding fromOld
   moved-so =
       let a = refused-not (ltb 0x40000000 (length film)) TooLong _ n e in
-      let b = foreign-not (old.isOld film) Foreign _ n (a .1) in
+      let b = foreign-not (old.isOld film) (causeOf film) _ n (a .1) in
       (ltb-false 0x40000000 (length film) (a .0), b .0, b .1)
 
   pub moved-taken : Accepted (P .name) (P .read .video) (P .read .audio) by n

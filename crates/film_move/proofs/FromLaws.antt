@@ -13,7 +13,6 @@ use Rattle.laws.proofs.SetsLaws.{sets-append}
 use Rattle.laws.proofs.PutLaws.{put-then}
 use Rattle.part.specs.Parts.{partAt}
 use Rattle.refusal.specs.declared.Cause.the-variants.{TooLong, MarkedPayload, CodecAlone}
-use Rattle.refusal.specs.declared.Cause.the-variants as cause
 use Rattle.refusal.specs.declared.Refusal.{Refusal}
 use Rattle.codec.specs.declared.Codec.{Codec}
 use Rattle.unmasking.specs.declared.Key.the-variants.{Absent}
@@ -39,7 +38,7 @@ use Rattle.old_film.specs.declared.OldFilm.{OldFilm}
 use Rattle.old_film.specs.declared.Found.the-variants.{Film, Foreign}
 use Rattle.old_film.specs.Finding.{Parts, partsOf, isOld, filmBy, foundIn}
 use Rattle.film_move.specs.Moving.{movedFrom}
-use Rattle.film_move.specs.FromOld.{plannedAs, packingOf, fromOld, FromOld}
+use Rattle.film_move.specs.FromOld.{plannedAs, packingOf, causeOf, fromOld, FromOld}
 use Rattle.film_move.proofs.MarkLaws.{none-marked, read-marked}
 
 -- ---- stores over stores that are no longer
@@ -270,7 +269,7 @@ module _ (c : List ℕ) where
     unfolding fromOld
     from-long h e = rw (e, lt-ltb 0x40000000 (length c) h) (refl, refl)
 
-    pub from-foreign : length c ≤ 0x40000000 → foundIn c ≡ Foreign → r ≡ refusedBy cause.Foreign → FromOld c mpeg-codec audio-codec out r out
+    pub from-foreign : length c ≤ 0x40000000 → foundIn c ≡ Foreign → r ≡ refusedBy (causeOf c) → FromOld c mpeg-codec audio-codec out r out
     unfolding fromOld
     from-foreign h f e = rw (e, le-ltb 0x40000000 (length c) h, is-foreign f) (refl, refl)
 

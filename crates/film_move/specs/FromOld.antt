@@ -5,7 +5,8 @@ use mathlib.Core.List.{List}
 use mathlib.Core.Bool.{Bool, cond}
 use lib.ListN.{length}
 use lib.Dec.{ltb}
-use Rattle.refusal.specs.declared.Cause.the-variants.{TooLong, MarkedPayload, Foreign}
+use Rattle.refusal.specs.declared.Cause.{Cause}
+use Rattle.refusal.specs.declared.Cause.the-variants.{TooLong, MarkedPayload, Foreign, ManyAudios}
 use Rattle.codec.specs.declared.Codec.{Codec}
 use Rattle.unmasking.specs.declared.Key.the-variants.{Absent}
 use Rattle.written.specs.declared.Written.{Written}
@@ -15,6 +16,7 @@ use Rattle.film_plan.specs.declared.Packing.{Packing}
 use Rattle.film_plan.specs.Films.{filmBytes}
 use Rattle.film_plan.specs.Planning.{refusedBy, plannedOf}
 use Rattle.old_film.specs.Finding.{Parts, partsOf, isOld}
+use Rattle.old_audios.specs.Audios.{isMany}
 
 -- the size of a film, or 11 and 15. It serves the contract of what plans by sizes
 abbrev pub plannedAs : ℕ → Bool → Written
@@ -31,11 +33,15 @@ newBytes parts mpeg-codec audio-codec = filmBytes (parts .name) (parts .read .vi
 abbrev pub newPlan : Parts → Codec → Codec → Written
 newPlan parts mpeg-codec audio-codec = plannedOf (parts .name) (parts .read .video) (parts .read .audio) (packingOf (parts .audio) mpeg-codec audio-codec)
 
--- "Refusals, after 11: 19 not exactly what that builder writes ..; then 23, 11 for the result, 15 and 16"; here for at most one audio
+-- "19 not exactly what that builder writes for one video and its audios ..; 20 more than one audio"
+abbrev pub causeOf : List ℕ → Cause
+causeOf container = cond (isMany container) ManyAudios Foreign
+
+-- "Refusals, after 11: 19 ..; 20 ..; then 23, 11 for the result, 15 and 16"
 unfoldable pub fromOld : List ℕ → Codec → Codec → Written
 fromOld container mpeg-codec audio-codec =
     cond (ltb 0x40000000 (length container)) (refusedBy TooLong)
-    (cond (isOld container) (newPlan (partsOf container) mpeg-codec audio-codec) (refusedBy Foreign))
+    (cond (isOld container) (newPlan (partsOf container) mpeg-codec audio-codec) (refusedBy (causeOf container)))
 
 -- the answer, and the output after it
 abbrev pub FromOld : List ℕ → Codec → Codec → List ℕ → Written → List ℕ → Type 0

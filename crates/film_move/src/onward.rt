@@ -15,7 +15,7 @@ ghost use Rattle.write.specs.Writing.{WritingOf};
 ghost use Rattle.film_turns.specs.declared.Form.the-variants as form;
 ghost use Rattle.film_turns.specs.Turns.{streamSize};
 ghost use Rattle.old_film.specs.Finding.{partsOf, filmBy};
-ghost use Rattle.film_move.specs.FromOld.{plannedAs, packingOf, FromOld};
+ghost use Rattle.film_move.specs.FromOld.{plannedAs, packingOf, causeOf, FromOld};
 use crate::LONGEST;
 use crate::putting::move_turns;
 use crate::putting::put_chunk;
@@ -133,6 +133,16 @@ fn move_film(container: &[u8], film: OldFilm, packing: Packing, out: &mut [u8]) 
     }
 }
 
+// Why a container is refused that is no film of the builder with at most one audio.
+fn cause_of(container: &[u8]) -> Cause
+    ensures { λ r. ⌜ r ≡ causeOf (now (container .entry)) ⌝ }
+{
+    if old_audios::is_many(container) {
+        return Cause::ManyAudios;
+    }
+    Cause::Foreign
+}
+
 // Moves a film of the old builder, with at most one audio, to request 1's container, with the codecs that are given, and answers its size.
 // Bytes past it stay; a refusal leaves the output as it was.
 pub fn from_old(container: &[u8], mpeg_codec: Codec, audio_codec: Codec, out: &mut [u8]) -> Written
@@ -146,6 +156,6 @@ pub fn from_old(container: &[u8], mpeg_codec: Codec, audio_codec: Codec, out: &m
             let packing = packing_of(film.audio, mpeg_codec, audio_codec);
             move_film(container, film, packing, out)
         }
-        Found::Foreign => refused(Cause::Foreign),
+        Found::Foreign => refused(cause_of(container)),
     }
 }

@@ -2,6 +2,7 @@
 use mathlib.Core.Path.{sym, ap, _∙_}
 use denote.Ref.{now}
 use Rattle.film_plan.specs.declared.Packing.{Packing}
+use Rattle.film_plan.specs.Planning.{refusedBy}
 use Rattle.film_move.proofs.FromLaws.{is-film, from-long, from-film, from-foreign}
 use borrow.Author.Needs.{needs}
 use Rattle.film_move.proofs.onward.from_old.Statement.{statement}
@@ -35,6 +36,9 @@ move-film-requires c κs =
 enum-told : tie.Need-enum-told
 enum-told c = search needs
 
+cause-of-requires : tie.Need-cause-of-requires
+cause-of-requires c κs = search needs
+
 refused-requires-2 : tie.Need-refused-requires-2
 refused-requires-2 c κs = search needs
 
@@ -53,11 +57,12 @@ returns-2 c =
 
 returns-3 : tie.Need-returns-3
 returns-3 c =
-    let told = c .before in
+    let why = c .before in
+    let told = why .before in
     let found = told .before .before in
     let start = found .before .before .before .before in
     from-foreign (now (start .args .container)) (start .args .mpeg-codec) (start .args .audio-codec) (now (start .args .out)) _ (found .before .if1 .left)
-    (sym (found .find .ensures) ∙ told .enum-told .given .1) (c .refused2 .ensures)
+    (sym (found .find .ensures) ∙ told .enum-told .given .1) (c .refused2 .ensures ∙ ap refusedBy (why .cause-of .ensures))
 
 pub from-old-spec : {M : Type 1} → statement M
 from-old-spec =
@@ -70,6 +75,7 @@ from-old-spec =
     packing-of-requires
     move-film-requires
     enum-told
+    cause-of-requires
     refused-requires-2
     same-length
     returns-2
