@@ -104,12 +104,12 @@ module _ (form : Form) (track : Track) (from : ℕ) (bytes : List ℕ) (others :
       let payload = insideOf form bytes in
       no-stand payload (ltb 0x10000 (length payload)) (standsAt (chunkOf form track from payload) bytes 0) (isEnd form payload) (stands-not payload)
 
-video-letters : (form : Form) (number from : ℕ) (payload more : List ℕ) → front (bytes32 (lettersIn form (Audio number))) (chunkOf form Video from payload ++ more) ≡ false
+pub video-letters : (form : Form) (number from : ℕ) (payload more : List ℕ) → front (bytes32 (lettersIn form (Audio number))) (chunkOf form Video from payload ++ more) ≡ false
 unfolding chunkOf shapeOf headBy sameBytes
 video-letters Old number from payload more = refl
 video-letters New number from payload more = refl
 
-audio-letters : (form : Form) (number from : ℕ) (payload more : List ℕ) → front (bytes32 (lettersIn form Video)) (chunkOf form (Audio number) from payload ++ more) ≡ false
+pub audio-letters : (form : Form) (number from : ℕ) (payload more : List ℕ) → front (bytes32 (lettersIn form Video)) (chunkOf form (Audio number) from payload ++ more) ≡ false
 unfolding chunkOf shapeOf headBy sameBytes
 audio-letters Old number from payload more = refl
 audio-letters New number from payload more = refl
@@ -123,7 +123,7 @@ taken-some : (n : ℕ) (stream : List ℕ) → 0 < n → 0 < length stream → 0
 taken-some n stream h k = omega (arith, length-take n stream)
 
 -- where the stream is over, no chunk of it stands
-next-back : (form : Form) (track : Track) (from : ℕ) (going : Bool) (stream more : List ℕ) → (going ≡ false → stream ≡ []) → isEnd form (take 0x10000 stream) ≡ false
+pub next-back : (form : Form) (track : Track) (from : ℕ) (going : Bool) (stream more : List ℕ) → (going ≡ false → stream ≡ []) → isEnd form (take 0x10000 stream) ≡ false
     → (stream ≡ [] → payloadIn form track from true more ≡ []) → payloadIn form track from going (nextOf form track from stream ++ more) ≡ take 0x10000 stream
 unfolding nextOf payloadIn
 next-back form track from true [] more over goes none = none refl
@@ -132,7 +132,7 @@ next-back form track from true (byte ∷ stream) more over goes none =
     chunk-back form track from (take 0x10000 (byte ∷ stream)) more (taken-few 0x10000 (byte ∷ stream)) goes
 next-back form track from false (byte ∷ stream) more over goes none = let z : _≡_ {A = List ℕ} (byte ∷ stream) [] = over refl in let y : _≡_ {A = ℕ} 0 1 = cc in absurd (omega arith)
 
-next-size : (form : Form) (track : Track) (from : ℕ) (stream : List ℕ) → length (nextOf form track from stream) ≡ chunkSize form (length (take 0x10000 stream))
+pub next-size : (form : Form) (track : Track) (from : ℕ) (stream : List ℕ) → length (nextOf form track from stream) ≡ chunkSize form (length (take 0x10000 stream))
 unfolding nextOf
 next-size form track from [] = sym (size-none form)
 next-size form track from (byte ∷ stream) = chunk-length form track from (take 0x10000 (byte ∷ stream)) (taken-some 0x10000 (byte ∷ stream) (omega arith) (omega arith))
@@ -143,7 +143,7 @@ later-goes form stream goes n =
     ap (λ (l : List ℕ). isEnd form (take 0x10000 l)) (drop-drop (n * 0x10000) 0x10000 stream) ∙ ap (λ (k : ℕ). isEnd form (take 0x10000 (drop k stream))) e ∙ goes (suc n)
 
 -- a stream that does not go on is over
-over-later : (stream : List ℕ) → goesOn (take 0x10000 stream) ≡ false → drop 0x10000 stream ≡ []
+pub over-later : (stream : List ℕ) → goesOn (take 0x10000 stream) ≡ false → drop 0x10000 stream ≡ []
 over-later stream e =
     ⊎-elim (λ (h : length stream < 0x10000). drop-of-length-le stream {i = 0x10000} (omega arith))
     (λ (h : 0x10000 ≤ length stream).

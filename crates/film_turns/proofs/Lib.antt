@@ -5,4 +5,5 @@ pub mod ReadLaws
 pub mod SizeLaws
 pub mod PayloadLaws
 pub mod BackLaws
+pub mod AudioLaws
 pub mod OneAnswer

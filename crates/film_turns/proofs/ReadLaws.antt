@@ -60,7 +60,7 @@ module _ (form : Form) (track : Track) (from : ℕ) (bytes : List ℕ) where
 
 -- ---- a stream that does not go on has no more
 
-closed : (form : Form) (track : Track) (from : ℕ) (bytes : List ℕ) (going : Bool) → going ≡ false → payloadIn form track from going bytes ≡ []
+pub closed : (form : Form) (track : Track) (from : ℕ) (bytes : List ℕ) (going : Bool) → going ≡ false → payloadIn form track from going bytes ≡ []
 unfolding payloadIn
 closed form track from bytes going e = rw e
 
