@@ -1,11 +1,11 @@
 -- What the builder writes around the chunks, piece by piece, and that a container is its film exactly when all pieces stand there. Assumes nothing.
-use Prim.Native.Nat.{ℕ, zero, suc, _+_, _-_, _^_, _≤_, _<_}
+use Prim.Native.Nat.{ℕ, zero, suc, _+_, _-_, _*_, _^_, _≤_, _<_}
 use mathlib.Core.Path.{_≡_, refl, sym, ap, ap₂, _∙_}
 use mathlib.Core.List.{List, [], _∷_, _++_, append-nil, append-assoc, map}
 use mathlib.Core.Bool.{Bool, true, false, cond, _&&_}
 use mathlib.Core.Logic.{⊎-elim}
 use native.Mathlib.Omega.{arith}
-use lib.ListN.{length, take, drop, length-append, length-take, length-drop, length-replicate}
+use lib.ListN.{length, take, drop, length-append, length-take, length-drop, length-replicate, replicate}
 use lib.Dec.{eqb}
 use borrow.Author.Tests.{eq-eqb, ne-eqb, le-leb, lt-leb}
 use Rattle.laws.proofs.Side.{side}
@@ -27,7 +27,7 @@ use Rattle.old_film.specs.declared.Found.the-variants.{Film, Foreign}
 use Rattle.old_film.specs.Blocks.{oldHead, tableBlock, endBlock}
 use Rattle.old_film.specs.Tables.{nameStart, oldNames, oldVideo, oldAudio}
 use Rattle.old_film.specs.Films.{audioBlocks, oldAudios, oldTurns, bytesIn, oldEnds, oldBytes}
-use Rattle.old_film.specs.Finding.{Parts, nameIn, nameSize, audioSize, partsFrom, partsOf, audiosOf, rebuilt, foundIn}
+use Rattle.old_film.specs.Finding.{Parts, nameIn, nameSize, audioCount, audioSize, partsFrom, partsOf, audiosOf, rebuilt, foundIn, standsAround}
 
 -- ---- the first block
 
@@ -97,15 +97,15 @@ unfolding audioBlocks sameBytes
 audio-blocks-stand container place true bytes e = ap (λ (l : List ℕ). standsAt l container place) (append-nil (tableBlock SFA (oldAudio 0))) ∙ sym e
 audio-blocks-stand container place false bytes e = stands-front [] container place
 
-ends-same : (audio : Bool) (bytes : List ℕ) → oldEnds (audiosOf audio bytes) ≡ oldEnds (audiosOf audio [])
+pub ends-same : (audios : List (List ℕ)) → oldEnds audios ≡ oldEnds (replicate (length audios) [])
 unfolding oldEnds
-ends-same true bytes = refl
-ends-same false bytes = refl
+ends-same [] = refl
+ends-same (audio ∷ audios) = ap (λ (l : List ℕ). endBlock ++ l) (ends-same audios)
 
-ends-some : (audio : Bool) → 0 < length (oldEnds (audiosOf audio []))
+pub ends-some : (audios : List (List ℕ)) → 0 < length (oldEnds audios)
 unfolding oldEnds oldHead
-ends-some true = omega arith
-ends-some false = omega arith
+ends-some [] = omega arith
+ends-some (audio ∷ audios) = rw (length-append endBlock (oldEnds audios)) (omega (arith, ends-some audios))
 
 -- ---- the chunks
 
@@ -135,9 +135,17 @@ short c part n e h =
     ⊎-elim (λ (k : length c < 96 + n). rw (e, lt-leb (96 + n) (length c) k) (omega arith))
     (λ (k : 96 + n ≤ length c). rw (e, le-leb (96 + n) (length c) k) (omega (arith, length-take n (drop 96 c)))) (side (length c) (96 + n))
 
-pub audio-fits : (audio : Bool) → audioSize audio ≤ 0x60
-audio-fits true = omega arith
-audio-fits false = omega arith
+pub count-is : (audio : Bool) → audioCount audio * 0x60 ≡ audioSize audio
+count-is true = refl
+count-is false = refl
+
+pub count-fits : (audio : Bool) → audioCount audio ≤ 1
+count-fits true = omega arith
+count-fits false = omega arith
+
+audios-count : (audio : Bool) (bytes : List ℕ) → length (audiosOf audio bytes) ≡ audioCount audio
+audios-count true bytes = refl
+audios-count false bytes = refl
 
 -- ---- all of it
 
@@ -153,6 +161,72 @@ closing a p e h =
     ⊎-elim (λ (l : p + e < a). rw (ne-eqb a (p + e) (λ z. omega arith)) (sym (ne-eqb (a - p) e (λ z. omega arith))))
     (λ (l : a ≤ p + e). rw (eq-eqb a (p + e) (omega arith)) (sym (eq-eqb (a - p) e (omega arith)))) (side (p + e) a)) (side a (p + e))
 
+-- where the blocks of audios stand, and behind them the turns, no more is to be compared
+module _ (c name : List ℕ) (e : name ≡ nameIn c) (video : List ℕ) (audios : List (List ℕ)) (start end : ℕ)
+    (blocks : standsAt (audioBlocks 0 audios) c (nameSize (length name) + 0x80) ≡ true)
+    (s : nameSize (length name) + 0x80 + length (audioBlocks 0 audios) ≡ start)
+    (turns : drop start c ≡ oldTurns (length video + bytesIn audios) 0 video audios ++ drop end (drop start c))
+    (within : end ≤ length (drop start c)) where
+  abbrev X : List ℕ
+  X = tableBlock CRID (oldNames name)
+
+  abbrev Y : List ℕ
+  Y = tableBlock SFV (oldVideo (length video))
+
+  abbrev Z : List ℕ
+  Z = audioBlocks 0 audios
+
+  abbrev T : List ℕ
+  T = oldTurns (length video + bytesIn audios) 0 video audios
+
+  abbrev E : List ℕ
+  E = oldEnds audios
+
+  T-stands : standsAt T c start ≡ true
+  T-stands = stands-front T c start ∙ ap (front T) turns ∙ front-self T (drop end (drop start c))
+
+  T-length : length T ≡ end
+  T-length = omega (arith, ap length turns, length-append T (drop end (drop start c)), length-drop end (drop start c), within)
+
+  first-is : 0 + length X ≡ nameSize (length name)
+  first-is = omega (arith, name-block-length name)
+
+  second-is : nameSize (length name) + length Y ≡ nameSize (length name) + 0x80
+  second-is = ap (λ (m : ℕ). nameSize (length name) + m) (video-block-length (length video))
+
+  fourth-is : start + length T ≡ start + end
+  fourth-is = ap (λ (m : ℕ). start + m) T-length
+
+  abbrev whole : List ℕ
+  whole = X ++ (Y ++ (Z ++ (T ++ E)))
+
+  abbrev shown : Bool
+  shown = standsAt Y c (nameSize (length name))
+
+  pieces : standsAt whole c 0 ≡ (standsAt X c 0 && (shown && standsAt E c (start + end)))
+  pieces =
+      stands-then X (Y ++ (Z ++ (T ++ E))) c 0
+      ∙ ap (λ (u : Bool). standsAt X c 0 && u)
+      (ap (standsAt (Y ++ (Z ++ (T ++ E))) c) first-is ∙ stands-then Y (Z ++ (T ++ E)) c (nameSize (length name))
+      ∙ ap (λ (u : Bool). shown && u)
+      (ap (standsAt (Z ++ (T ++ E)) c) second-is ∙ stands-then Z (T ++ E) c (nameSize (length name) + 0x80)
+      ∙ ap₂ (λ (u w : Bool). u && w) blocks
+      (ap (standsAt (T ++ E) c) s ∙ stands-then T E c start ∙ ap₂ (λ (u w : Bool). u && w) T-stands (ap (standsAt E c) fourth-is))))
+
+  whole-length : length whole ≡ start + end + length E
+  whole-length =
+      length-append X (Y ++ (Z ++ (T ++ E)))
+      ∙ omega (arith, length-append Y (Z ++ (T ++ E)), length-append Z (T ++ E), length-append T E, name-block-length name, video-block-length (length video), s, T-length)
+
+  pub rebuilt-is : sameBytes c (oldBytes name video audios) ≡ standsAround c (length name) (length video) (start + end) (length audios)
+  unfolding oldBytes
+  rebuilt-is =
+      same-front c whole
+      ∙ ap₂ (λ (u w : Bool). u && w) (pieces ∙ ap (λ (u : Bool). u && (shown && standsAt E c (start + end))) (name-stands name c (be32 c 4 - 89) e))
+      (ap (eqb (length c)) whole-length ∙ closing (length c) (start + end) (length E) (ends-some audios))
+      ∙ shuffle (standsAt (nameHead name) c 0 && standsAt (nameTail name) c (96 + length name)) shown (standsAt E c (start + end)) (eqb (length c - (start + end)) (length E))
+      ∙ rw (ends-same audios)
+
 module _ (c name : List ℕ) (e : name ≡ nameIn c) (audio : Bool) (g : audio ≡ standsAt (tableBlock SFA (oldAudio 0)) c (nameSize (length name) + 0x80)) (start : ℕ)
     (s : start ≡ nameSize (length name) + 0x80 + audioSize audio) (turns : Turns) (t : turns ≡ turnsBy (readIn Old audio (drop start c)))
     (within : turns .end ≤ length (drop start c)) where
@@ -163,96 +237,33 @@ module _ (c name : List ℕ) (e : name ≡ nameIn c) (audio : Bool) (g : audio �
   unfolding partsOf
   parts-are = rw (s, g, e)
 
-  abbrev X : List ℕ
-  X = tableBlock CRID (oldNames name)
-
-  abbrev Y : List ℕ
-  Y = tableBlock SFV (oldVideo (length (R .video)))
-
-  abbrev Z : List ℕ
-  Z = audioBlocks 0 (audiosOf audio (R .audio))
-
-  abbrev T : List ℕ
-  T = oldTurns (length (R .video) + bytesIn (audiosOf audio (R .audio))) 0 (R .video) (audiosOf audio (R .audio))
-
-  abbrev E : List ℕ
-  E = oldEnds (audiosOf audio (R .audio))
-
-  T-is : T ≡ chunksOf Old (R .video) (R .audio)
-  T-is = turns-same-old audio (R .video) (R .audio) (λ z. no-audio Old (length (drop start c) + 1) 0 true audio (drop start c) z)
-
-  T-there : drop start c ≡ T ++ drop (R .end) (drop start c)
-  T-there = read-whole Old audio (drop start c) ∙ ap (λ (l : List ℕ). l ++ drop (R .end) (drop start c)) (sym T-is)
-
-  T-stands : standsAt T c start ≡ true
-  T-stands = stands-front T c start ∙ ap (front T) T-there ∙ front-self T (drop (R .end) (drop start c))
+  video-is : turns .video ≡ length (R .video)
+  video-is = ap (λ (u : Turns). u .video) t
 
   end-is : turns .end ≡ R .end
   end-is = ap (λ (u : Turns). u .end) t
 
-  T-length : length T ≡ turns .end
-  T-length =
-      omega (arith, ap length T-there, length-append T (drop (R .end) (drop start c)), length-drop (R .end) (drop start c), end-is, within)
+  turns-there : drop start c ≡ oldTurns (length (R .video) + bytesIn (audiosOf audio (R .audio))) 0 (R .video) (audiosOf audio (R .audio)) ++ drop (turns .end) (drop start c)
+  turns-there =
+      read-whole Old audio (drop start c)
+      ∙ ap₂ (λ (l : List ℕ) (n : ℕ). l ++ drop n (drop start c))
+      (sym (turns-same-old audio (R .video) (R .audio) (λ z. no-audio Old (length (drop start c) + 1) 0 true audio (drop start c) z))) (sym end-is)
 
-  first-is : 0 + length X ≡ nameSize (length name)
-  first-is = omega (arith, name-block-length name)
-
-  second-is : nameSize (length name) + length Y ≡ nameSize (length name) + 0x80
-  second-is = ap (λ (m : ℕ). nameSize (length name) + m) (video-block-length (length (R .video)))
-
-  third-is : nameSize (length name) + 0x80 + length Z ≡ start
-  third-is = ap (λ (m : ℕ). nameSize (length name) + 0x80 + m) (audio-blocks-length audio (R .audio)) ∙ sym s
-
-  fourth-is : start + length T ≡ start + turns .end
-  fourth-is = ap (λ (m : ℕ). start + m) T-length
-
-  abbrev whole : List ℕ
-  whole = X ++ (Y ++ (Z ++ (T ++ E)))
-
-  abbrev shown : Bool
-  shown = standsAt Y c (nameSize (length name))
-
-  pieces : standsAt whole c 0 ≡ (standsAt X c 0 && (shown && standsAt E c (start + turns .end)))
-  pieces =
-      stands-then X (Y ++ (Z ++ (T ++ E))) c 0
-      ∙ ap (λ (u : Bool). standsAt X c 0 && u)
-      (ap (standsAt (Y ++ (Z ++ (T ++ E))) c) first-is ∙ stands-then Y (Z ++ (T ++ E)) c (nameSize (length name))
-      ∙ ap (λ (u : Bool). shown && u)
-      (ap (standsAt (Z ++ (T ++ E)) c) second-is ∙ stands-then Z (T ++ E) c (nameSize (length name) + 0x80)
-      ∙ ap₂ (λ (u w : Bool). u && w) (audio-blocks-stand c (nameSize (length name) + 0x80) audio (R .audio) g)
-      (ap (standsAt (T ++ E) c) third-is ∙ stands-then T E c start ∙ ap₂ (λ (u w : Bool). u && w) T-stands (ap (standsAt E c) fourth-is))))
-
-  whole-length : length whole ≡ start + turns .end + length E
-  whole-length =
-      length-append X (Y ++ (Z ++ (T ++ E)))
-      ∙ omega (arith, length-append Y (Z ++ (T ++ E)), length-append Z (T ++ E), length-append T E, name-block-length name, video-block-length (length (R .video)), third-is, T-length)
-
-  -- all that is compared; the first block ends at `first`
-  abbrev pub stands : ℕ → Bool
-  stands first =
-      standsAt (nameHead name) c 0 && standsAt (nameTail name) c (96 + length name) && standsAt (tableBlock SFV (oldVideo (turns .video))) c first
-      && (standsAt (oldEnds (audiosOf audio [])) c (start + turns .end) && eqb (length c - (start + turns .end)) (length (oldEnds (audiosOf audio []))))
-
-  video-is : turns .video ≡ length (R .video)
-  video-is = ap (λ (u : Turns). u .video) t
-
-  same-is : sameBytes c (rebuilt (partsFrom c name audio start)) ≡ stands (nameSize (length name))
-  unfolding oldBytes
+  same-is : sameBytes c (rebuilt (partsFrom c name audio start)) ≡ standsAround c (length name) (turns .video) (start + turns .end) (audioCount audio)
   same-is =
-      same-front c whole
-      ∙ ap₂ (λ (u w : Bool). u && w) (pieces ∙ ap (λ (u : Bool). u && (shown && standsAt E c (start + turns .end))) (name-stands name c (be32 c 4 - 89) e))
-      (ap (eqb (length c)) whole-length ∙ closing (length c) (start + turns .end) (length E) (rw (ends-same audio (R .audio)) (ends-some audio)))
-      ∙ shuffle (standsAt (nameHead name) c 0 && standsAt (nameTail name) c (96 + length name)) shown (standsAt E c (start + turns .end)) (eqb (length c - (start + turns .end)) (length E))
-      ∙ rw (ends-same audio (R .audio), sym video-is)
+      rebuilt-is c name e (R .video) (audiosOf audio (R .audio)) start (turns .end) (audio-blocks-stand c (nameSize (length name) + 0x80) audio (R .audio) g)
+      (ap (λ (m : ℕ). nameSize (length name) + 0x80 + m) (audio-blocks-length audio (R .audio)) ∙ sym s) turns-there within
+      ∙ ap₂ (λ (v n : ℕ). standsAround c (length name) v (start + turns .end) n) (sym video-is) (audios-count audio (R .audio))
 
-  pub found : (first : ℕ) → first ≡ nameSize (length name) → (u : Bool) → (isUtf8 name && stands first) ≡ u
+  pub found : (count : ℕ) → count ≡ audioCount audio → (u : Bool)
+      → (isUtf8 name && standsAround c (length name) (turns .video) (start + turns .end) count) ≡ u
       → cond u (Film (record { name = length name; audio = audio; start = start; turns = turns })) Foreign ≡ foundIn c
   unfolding foundIn
-  found first h u f =
+  found count k u f =
       ap₂ (λ (w : Bool) (m : Turns). cond w (Film (record { name = length name; audio = audio; start = start; turns = m })) Foreign)
-      (sym f ∙ ap (λ (p : ℕ). isUtf8 name && stands p) h ∙ ap (λ (w : Bool). isUtf8 name && w) (sym same-is)) t
+      (sym f ∙ ap (λ (n : ℕ). isUtf8 name && standsAround c (length name) (turns .video) (start + turns .end) n) k ∙ ap (λ (w : Bool). isUtf8 name && w) (sym same-is)) t
       ∙ ap (λ (p : Parts). cond (isUtf8 (p .name) && sameBytes c (rebuilt p)) (Film (record { name = length (p .name); audio = p .audio; start = p .start; turns = turnsBy (p .read) })) Foreign)
       (sym parts-are)
 
-  pub not-utf8 : (first : ℕ) → first ≡ nameSize (length name) → isUtf8 name ≡ false → Foreign ≡ foundIn c
-  not-utf8 first h e = found first h false (ap (λ (w : Bool). w && stands first) e)
+  pub not-utf8 : (count : ℕ) → count ≡ audioCount audio → isUtf8 name ≡ false → Foreign ≡ foundIn c
+  not-utf8 count k e = found count k false (ap (λ (w : Bool). w && standsAround c (length name) (turns .video) (start + turns .end) count) e)

@@ -1,4 +1,5 @@
 pub mod FindLaws
+pub mod EndLaws
 pub mod BackLaws
 pub mod Promises
 pub mod OneAnswer

@@ -1,21 +1,22 @@
 -- Rules O7 and O8: recognising is rebuilding. A film is the builder's exactly when writing it anew from its own parts gives the same bytes. Here with at most one audio.
 use Prim.Native.Nat.{ℕ, _+_, _-_}
-use mathlib.Core.List.{List, [], _∷_}
+use mathlib.Core.List.{List, [], _∷_, _++_}
 use mathlib.Core.Bool.{Bool, cond, _&&_}
-use lib.ListN.{length, drop}
+use lib.ListN.{length, drop, replicate}
+use lib.Dec.{eqb}
 use Rattle.word.specs.Numbers.{be32}
 use Rattle.part.specs.Parts.{partAt}
-use Rattle.signature.specs.Signatures.{SFA, sameBytes, standsAt}
+use Rattle.signature.specs.Signatures.{CRID, SFV, SFA, sameBytes, standsAt}
 use Rattle.utf8.specs.Utf8.{isUtf8}
-use Rattle.film_blocks.specs.Blocks.{padding}
+use Rattle.film_blocks.specs.Blocks.{zeros, padding}
 use Rattle.film_turns.specs.declared.Form.the-variants.{Old}
 use Rattle.film_turns.specs.Turns.{Read, readIn, turnsBy}
 use Rattle.old_film.specs.declared.OldFilm.{OldFilm}
 use Rattle.old_film.specs.declared.Found.{Found}
 use Rattle.old_film.specs.declared.Found.the-variants.{Film, Foreign}
-use Rattle.old_film.specs.Blocks.{tableBlock}
-use Rattle.old_film.specs.Tables.{oldAudio}
-use Rattle.old_film.specs.Films.{oldBytes}
+use Rattle.old_film.specs.Blocks.{oldHead, tableBlock}
+use Rattle.old_film.specs.Tables.{nameStart, oldVideo, oldAudio}
+use Rattle.old_film.specs.Films.{oldEnds, oldBytes}
 
 -- a film's parts: its name, whether there is audio, where its chunks start, and what they hold
 pub record Parts : Type 0 where
@@ -32,7 +33,11 @@ nameIn container = partAt container 96 (be32 container 4 - 89)
 abbrev pub nameSize : ℕ → ℕ
 nameSize n = 97 + n + padding (97 + n)
 
--- and of an audio's
+-- how many audios there are, of which there is one or none
+abbrev pub audioCount : Bool → ℕ
+audioCount audio = cond audio 1 0
+
+-- the size of an audio's block
 abbrev pub audioSize : Bool → ℕ
 audioSize audio = cond audio 0x60 0
 
@@ -63,3 +68,15 @@ filmBy parts = record { name = length (parts .name); audio = parts .audio; start
 
 unfoldable pub foundIn : List ℕ → Found
 foundIn container = cond (isOld container) (Film (filmBy (partsOf container))) Foreign
+
+-- ---- what is left to compare, where the blocks of audios and the chunks stand as they were read
+
+-- the ends of a video and so many audios, and nothing behind them
+abbrev pub closesWith : List ℕ → ℕ → ℕ → Bool
+closesWith container place count = standsAt (oldEnds (replicate count [])) container place && eqb (length container - place) (length (oldEnds (replicate count [])))
+
+-- the blocks of a name of n bytes and of a video of v bytes, and the ends
+abbrev pub standsAround : List ℕ → ℕ → ℕ → ℕ → ℕ → Bool
+standsAround container n v end count =
+    standsAt (oldHead CRID (89 + n) ++ nameStart n) container 0 && standsAt (zeros (1 + padding (97 + n))) container (96 + n)
+    && standsAt (tableBlock SFV (oldVideo v)) container (nameSize n) && closesWith container end count

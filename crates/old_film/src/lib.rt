@@ -3,17 +3,16 @@
 // From the Rust: `builder.rs`.
 ghost use mathlib.Core.Path.{_≡_};
 ghost use mathlib.Core.Bool.{_&&_};
-ghost use mathlib.Core.List.{[], _++_};
-ghost use Prim.Native.Nat.{_+_, _-_, _≤_, _<_, _^_};
-ghost use lib.Dec.{eqb};
+ghost use mathlib.Core.List.{_++_};
+ghost use Prim.Native.Nat.{_+_, _-_, _<_, _^_};
 ghost use lib.ListN.{length, drop};
-ghost use Rattle.part.specs.Parts.{IsPart};
+ghost use Rattle.word.specs.Numbers.{be32};
+ghost use Rattle.part.specs.Parts.{PartAt};
 ghost use Rattle.signature.specs.Signatures.{CRID, SFV, SFA, standsAt};
 ghost use Rattle.film_blocks.specs.Blocks.{zeros, padding};
-ghost use Rattle.old_film.specs.Blocks.{oldHead, tableBlock};
+ghost use Rattle.old_film.specs.Blocks.{oldHead, tableBlock, endBlock};
 ghost use Rattle.old_film.specs.Tables.{nameStart, oldVideo, oldAudio};
-ghost use Rattle.old_film.specs.Films.{oldEnds};
-ghost use Rattle.old_film.specs.Finding.{nameSize, audioSize, audiosOf, foundIn};
+ghost use Rattle.old_film.specs.Finding.{nameSize, audioCount, closesWith, standsAround, foundIn};
 use film_turns::Form;
 use film_turns::Turns;
 
@@ -37,8 +36,12 @@ pub const NAME: usize = 96;
 // What the first block's size is more than its name.
 const MORE: usize = 89;
 
-// The size of the video's block.
-const VIDEO: usize = 0x80;
+// The size of the video's block, of an audio's, and of an end.
+pub const VIDEO: usize = 0x80;
+
+pub const AUDIO: usize = 0x60;
+
+const END: usize = 28;
 
 // The first block up to a name of `len` bytes.
 pub fn name_head(len: u32) -> [u8; 96]
@@ -396,20 +399,28 @@ fn audio_stands(container: &[u8], place: usize) -> bool
     signature::stands_at(&block, container, place)
 }
 
+// The name of a film, where the builder puts it, as a part of the container.
+pub fn name_in(container: &[u8]) -> &[u8]
+    ensures { λ r. ⌜ PartAt (container .entry) 96 (be32 (now (container .entry)) 4 - 89) r × (length (now r) < 2 ^ 32) ⌝ }
+{
+    let size = word::read32(container, 4);
+    part::part_at(container, NAME, film_turns::less(size, MORE))
+}
+
 // The size of the first block, with a name of `len` bytes.
-fn name_size(len: usize) -> usize
-    requires { ⌜ len < 2 ^ 32 ⌝ }
+pub fn name_size(len: u32) -> usize
     ensures { λ r. ⌜ r ≡ nameSize len ⌝ }
 {
+    let len = len as usize;
     97 + len + film_blocks::padding(97 + len)
 }
 
-// The size of the audio's block, if there is one.
-fn audio_size(audio: bool) -> usize
-    ensures { λ r. ⌜ r ≡ audioSize audio ⌝ }
+// How many audios there are, of which there is one or none.
+fn audio_count(audio: bool) -> usize
+    ensures { λ r. ⌜ r ≡ audioCount audio ⌝ }
 {
     if audio {
-        return 0x60;
+        return 1;
     }
     0
 }
@@ -425,63 +436,58 @@ fn tail(bytes: &[u8], place: usize) -> &[u8]
 }
 
 // Whether the first block stands at the front, around a name of `len` bytes.
-fn name_stands(container: &[u8], len: usize) -> bool
-    requires { ⌜ len < 2 ^ 32 ⌝ }
+fn name_stands(container: &[u8], len: u32) -> bool
     ensures { λ r. ⌜ r ≡ (standsAt (oldHead CRID (89 + len) ++ nameStart len) (now (container .entry)) 0 && standsAt (zeros (1 + padding (97 + len))) (now (container .entry)) (96 + len)) ⌝ }
 {
-    let head = name_head(len as u32);
+    let head = name_head(len);
     if signature::stands_at(&head, container, 0) {
         let none = [0u8; 33];
+        let len = len as usize;
         let count = 1 + film_blocks::padding(97 + len);
         return signature::stands_at(&none[..count], container, NAME + len);
     }
     false
 }
 
-// Whether a container closes at a place with these bytes.
-fn closes(container: &[u8], place: usize, ends: &[u8]) -> bool
-    ensures { λ r. ⌜ r ≡ (standsAt (now (ends .entry)) (now (container .entry)) place && eqb (length (now (container .entry)) - place) (length (now (ends .entry)))) ⌝ }
+// Whether an end stands at a place.
+fn end_stands(container: &[u8], place: usize) -> bool
+    ensures { λ r. ⌜ r ≡ standsAt endBlock (now (container .entry)) place ⌝ }
 {
-    if signature::stands_at(ends, container, place) {
-        return word::left_from(container, place) == ends.len();
+    signature::stands_at(
+        b"@END\0\0\0\x18\0\x01\0\x18\0\0\0\0\0\0\0\0\0\0\0\0\0\0\0\0",
+        container,
+        place,
+    )
+}
+
+// Whether a container closes with the ends of its streams: a video, and so many audios.
+fn ends_stand(container: &[u8], place: usize, count: usize) -> bool
+    ensures { λ r. ⌜ r ≡ closesWith (now (container .entry)) place count ⌝ }
+{
+    let mut at = place;
+    let mut left = count;
+    while 0 < left {
+        if end_stands(container, at) {
+            at += END;
+            left -= 1;
+        } else {
+            return false;
+        }
+    }
+    if end_stands(container, at) {
+        return word::left_from(container, at) == END;
     }
     false
 }
 
-// Whether it closes with the ends of its streams.
-fn ends_stand(container: &[u8], place: usize, audio: bool) -> bool
-    ensures { λ r. ⌜ r ≡ (standsAt (oldEnds (audiosOf audio [])) (now (container .entry)) place && eqb (length (now (container .entry)) - place) (length (oldEnds (audiosOf audio [])))) ⌝ }
-{
-    if audio {
-        return closes(
-            container,
-            place,
-            b"@END\0\0\0\x18\0\x01\0\x18\0\0\0\0\0\0\0\0\0\0\0\0\0\0\0\0@END\0\0\0\x18\0\x01\0\x18\0\0\0\0\0\0\0\0\0\0\0\0\0\0\0\0",
-        );
-    }
-    closes(
-        container,
-        place,
-        b"@END\0\0\0\x18\0\x01\0\x18\0\0\0\0\0\0\0\0\0\0\0\0\0\0\0\0",
-    )
-}
-
-// Whether all that the builder writes around the chunks stands where it writes it.
-fn is_rebuilt(
-    container: &[u8],
-    name: usize,
-    first: usize,
-    video: usize,
-    end: usize,
-    audio: bool,
-) -> bool
-    requires { ⌜ name < 2 ^ 32 ⌝ }
-    ensures { λ r. ⌜ r ≡ (standsAt (oldHead CRID (89 + name) ++ nameStart name) (now (container .entry)) 0 && standsAt (zeros (1 + padding (97 + name))) (now (container .entry)) (96 + name) && standsAt (tableBlock SFV (oldVideo video)) (now (container .entry)) first && (standsAt (oldEnds (audiosOf audio [])) (now (container .entry)) end && eqb (length (now (container .entry)) - end) (length (oldEnds (audiosOf audio []))))) ⌝ }
+// Whether all that the builder writes around the blocks of audios and the chunks stands where it writes it.
+pub fn is_rebuilt(container: &[u8], name: u32, video: usize, end: usize, count: usize) -> bool
+    ensures { λ r. ⌜ r ≡ standsAround (now (container .entry)) name video end count ⌝ }
 {
     if name_stands(container, name) {
         let block = video_block(video);
-        if signature::stands_at(&block, container, first) {
-            return ends_stand(container, end, audio);
+        if signature::stands_at(&block, container, name_size(name)) {
+            return ends_stand(container, end, count);
         }
         return false;
     }
@@ -492,16 +498,16 @@ fn is_rebuilt(
 pub fn find(container: &[u8]) -> Found
     ensures { λ r. ⌜ r ≡ foundIn (now (container .entry)) ⌝ }
 {
-    let size = word::read32(container, 4);
-    let name = part::part_at(container, NAME, film_turns::less(size, MORE));
+    let name = name_in(container);
     let len = name.len();
-    let first = name_size(len);
+    let first = name_size(len as u32);
     let audio = audio_stands(container, first + VIDEO);
-    let start = first + VIDEO + audio_size(audio);
+    let count = audio_count(audio);
+    let start = first + VIDEO + count * AUDIO;
     let turns = film_turns::read_turns(tail(container, start), Form::Old, audio);
     if utf8::is_utf8(name) {
         let end = start + turns.end;
-        if is_rebuilt(container, len, first, turns.video, end, audio) {
+        if is_rebuilt(container, len as u32, turns.video, end, count) {
             return Found::Film(OldFilm {
                 name: len,
                 audio,

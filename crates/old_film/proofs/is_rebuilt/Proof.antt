@@ -13,6 +13,9 @@ video-block-requires c κs = search needs
 slice-aggregate-stands-at : tie.Need-slice-aggregate-stands-at
 slice-aggregate-stands-at c = search needs
 
+name-size-requires : tie.Need-name-size-requires
+name-size-requires c κs = search needs
+
 stands-at-requires : tie.Need-stands-at-requires
 stands-at-requires c κs = search needs
 
@@ -22,12 +25,14 @@ ends-stand-requires c κs = search needs
 returns : tie.Need-returns
 returns c =
     let stood = c .before .before in
-    rw (sym (c .before .before .before .before .before .before .name-stands .ensures) ∙ c .before .before .before .before .before .if1 .taken, sym (rw (stood .before .before .video-block .ensures) at (stood .stands-at .ensures)) ∙ c .before .if2 .taken) (c .ends-stand .ensures)
+    let block = stood .before .before .before in
+    rw (sym (block .before .before .name-stands .ensures) ∙ block .before .if1 .taken, sym (rw (block .video-block .ensures, stood .before .name-size .ensures) at (stood .stands-at .ensures)) ∙ c .before .if2 .taken) (c .ends-stand .ensures)
 
 returns-2 : tie.Need-returns-2
 returns-2 c =
     let stood = c .before in
-    rw (sym (stood .before .before .before .before .name-stands .ensures) ∙ stood .before .before .before .if1 .taken, sym (rw (stood .before .before .video-block .ensures) at (stood .stands-at .ensures)) ∙ c .if2 .left)
+    let block = stood .before .before .before in
+    rw (sym (block .before .before .name-stands .ensures) ∙ block .before .if1 .taken, sym (rw (block .video-block .ensures, stood .before .name-size .ensures) at (stood .stands-at .ensures)) ∙ c .if2 .left)
 
 returns-3 : tie.Need-returns-3
 returns-3 c = rw (sym (c .before .name-stands .ensures) ∙ c .if1 .left)
@@ -39,6 +44,7 @@ is-rebuilt-spec =
     name-stands-requires
     video-block-requires
     slice-aggregate-stands-at
+    name-size-requires
     stands-at-requires
     ends-stand-requires
     returns

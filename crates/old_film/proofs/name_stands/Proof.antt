@@ -8,9 +8,6 @@ use borrow.Author.Needs.{needs}
 use Rattle.old_film.proofs.name_stands.Statement.{statement}
 use Rattle.old_film.proofs.name_stands.Tie as tie
 
-cast-name-head : tie.Need-cast-name-head
-cast-name-head c = search needs
-
 name-head-requires : tie.Need-name-head-requires
 name-head-requires c κs = search needs
 
@@ -53,7 +50,6 @@ pub name-stands-spec : {M : Type 1} → statement M
 name-stands-spec =
     tie.close
     (tie.spec
-    cast-name-head
     name-head-requires
     slice-aggregate-stands-at
     stands-at-requires
