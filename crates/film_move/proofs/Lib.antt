@@ -4,8 +4,4 @@ pub mod FromLaws
 pub mod EndLaws
 pub mod OldPutLaws
 pub mod ToLaws
-pub mod CodecLaws
-pub mod ShortLaws
-pub mod AgainLaws
-pub mod Promises
 pub mod OneAnswer

@@ -1,4 +1,3 @@
 pub mod Moving
 pub mod FromOld
 pub mod ToOld
-pub mod Promises

@@ -16,11 +16,11 @@ use Rattle.written.proofs.RoomLaws.{planned-so}
 use Rattle.film_plan.specs.Planning.{refusedBy}
 use Rattle.old_film.specs.Finding as old
 use Rattle.new_film.specs.Finding as new
 use Rattle.film_move.specs.FromOld.{newBytes, fromOld, FromOld}
 use Rattle.film_move.specs.ToOld.{oldOf, toOld}
-use Rattle.film_move.specs.Promises as promised
-use Rattle.film_move.specs.Promises.{Gives, Moved}
-use Rattle.film_move.proofs.AgainLaws.{moved-taken, film-short, back-is, back-planned, new-short, onward-is, onward-planned, back-so}
+use Rattle.move_again.specs.Promises as promised
+use Rattle.move_again.specs.Promises.{Gives, Moved}
+use Rattle.move_again.proofs.AgainLaws.{moved-taken, film-short, back-is, back-planned, new-short, onward-is, onward-planned, back-so}
 
 -- ---- what was put at the front of an output stands there
 

@@ -34,12 +34,12 @@ use Rattle.new_film.specs.Finding.{answerIn, headerBy, packingBy, isNewBy}
 use Rattle.new_film.specs.Promises as promised
 use Rattle.new_film.proofs.Promises as proved
 use Rattle.new_film.proofs.HeaderLaws.{not-alone}
 use Rattle.film_move.specs.FromOld.{packingOf, newBytes, newPlan, causeOf, fromOld}
 use Rattle.film_move.specs.ToOld.{oldOf, toOld}
 use Rattle.film_move.proofs.MarkLaws.{read-marked, read-unmarked}
 use Rattle.film_move.proofs.ToLaws.{read-is, silent, name-few, is-rebuilt}
-use Rattle.film_move.proofs.CodecLaws.{low, low-fits, low-film, low-plan}
-use Rattle.film_move.proofs.ShortLaws.{old-short}
+use Rattle.move_again.proofs.CodecLaws.{low, low-fits, low-film, low-plan}
+use Rattle.move_again.proofs.ShortLaws.{old-short}
 
 -- ---- what is known where a size is answered
 

@@ -1,0 +1,4 @@
+mod CodecLaws
+mod ShortLaws
+mod AgainLaws
+pub mod Promises
