@@ -1,5 +1,6 @@
 //! Compares the exports of libplayer.a and libusm.a with the original Rust. `compare/run` builds and calls it:
-//!   compare check [PART..]      every answer against the original's; a part is masks, tables, containers or writes
+//!   compare check [PART..]      every answer against the original's; a part is masks, tables, containers,
+//!                               writes or moves
 //!   compare time [PART..]       both under one clock
 //!   compare record FOLDER       the original's answers for the replay programs, in this folder of crates
 //! It calls itself for what may take gigabytes: compare ask AUDIO.
@@ -87,6 +88,22 @@ mod writes {
     pub mod timing;
 }
 
+mod moves {
+    pub mod check;
+    pub mod compare;
+    pub mod container;
+    pub mod damage;
+    pub mod exports;
+    pub mod generate;
+    pub mod limits;
+    pub mod names;
+    pub mod original;
+    pub mod parts;
+    pub mod shrink;
+    pub mod tally;
+    pub mod timing;
+}
+
 use std::fmt::Display;
 use std::io;
 use std::path::Path;
@@ -103,7 +120,7 @@ struct Part {
     record: Option<fn(&Path) -> io::Result<()>>,
 }
 
-static PARTS: [Part; 4] = [
+static PARTS: [Part; 5] = [
     Part {
         name: "masks",
         check: || report(masks::check::run(), |agreed| println!("{agreed} comparisons agreed")),
@@ -136,6 +153,15 @@ static PARTS: [Part; 4] = [
         name: "writes",
         check: || report(writes::check::run(), |agreed| println!("{agreed} films that we wrote agreed")),
         time: writes::timing::run,
+        record: None,
+    },
+    Part {
+        name: "moves",
+        check: || report(moves::check::run(), |tally| tally.print()),
+        time: || {
+            moves::timing::run();
+            Vec::new()
+        },
         record: None,
     },
 ];
