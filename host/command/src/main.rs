@@ -5,11 +5,13 @@
 #![forbid(unsafe_code)]
 
 mod choice;
+mod codecs;
 mod completions;
 mod crew;
 mod csv_files;
 mod extract;
 mod films;
+mod from_old;
 mod info;
 mod key;
 mod keys;
@@ -25,6 +27,7 @@ mod progress;
 mod salvage;
 mod statement;
 mod table;
+mod to_old;
 mod trouble;
 
 use std::io::Write;
@@ -57,6 +60,8 @@ enum Command {
     Extract(extract::Extract),
     Pack(pack::Pack),
     Csv(csv_files::Csv),
+    FromOld(from_old::FromOld),
+    ToOld(to_old::ToOld),
     Salvage(salvage::Salvage),
     Profile(profile::Profile),
     Statement(statement::Statement),
@@ -81,6 +86,8 @@ fn run(command: Command) -> Status {
         Command::Extract(extract) => extract.run(),
         Command::Pack(pack) => pack.run(),
         Command::Csv(csv) => csv.run(),
+        Command::FromOld(from_old) => from_old.run(),
+        Command::ToOld(to_old) => to_old.run(),
         Command::Salvage(salvage) => salvage.run(),
         Command::Profile(profile) => profile.run(),
         Command::Statement(statement) => statement.run(),

@@ -8,6 +8,7 @@ use clap::Args;
 use serde::Serialize;
 use usm::Streams;
 
+use crate::codecs::Codecs;
 use crate::films::{Source, make_room};
 use crate::key;
 use crate::names::Shown;
@@ -37,12 +38,8 @@ pub struct Pack {
     /// The film's own name
     #[arg(long, value_name = "NAME")]
     name: Option<OsString>,
-    /// The video's codec, a number; 9 is VP9
-    #[arg(long, value_name = "NUMBER")]
-    video_codec: Option<u32>,
-    /// The audio's codec, a number; 2 is ADX, 4 is HCA
-    #[arg(long, value_name = "NUMBER")]
-    audio_codec: Option<u32>,
+    #[command(flatten)]
+    codecs: Codecs,
     /// The key, 1 to 16 hex digits
     #[arg(long, short, value_name = "KEY")]
     key: Option<String>,
@@ -87,7 +84,7 @@ impl Pack {
             }
         }
         let [video, audio] = &streams;
-        let mut packed = Streams::new(self.name(), video).with_codecs(self.video_codec, self.audio_codec);
+        let mut packed = Streams::new(self.name(), video).with_codecs(self.codecs.video_codec, self.codecs.audio_codec);
         if self.audio.is_some() {
             packed = packed.with_audio(audio);
         }

@@ -106,6 +106,15 @@ pub struct Packing {
 
 #[repr(C)]
 #[derive(Clone, Copy)]
+pub struct Codecs {
+    pub video_codec: u32,
+    pub audio_codec: u32,
+    pub has_video_codec: u8,
+    pub has_audio_codec: u8,
+}
+
+#[repr(C)]
+#[derive(Clone, Copy)]
 pub struct SalvageReply {
     pub refused_at: usize,
     pub kept: usize,
@@ -167,6 +176,7 @@ const _: () = assert!(size_of::<Chunk>() == 24);
 const _: () = assert!(size_of::<ListReply>() == 24);
 const _: () = assert!(size_of::<SizeReply>() == 24);
 const _: () = assert!(size_of::<Packing>() == 32);
+const _: () = assert!(size_of::<Codecs>() == 12);
 const _: () = assert!(size_of::<SalvageReply>() == 32);
 const _: () = assert!(size_of::<ProfileReply>() == 24);
 const _: () = assert!(size_of::<Tenant>() == 16);
@@ -219,6 +229,8 @@ unsafe extern "C" {
         out: *mut u8,
         out_len: usize,
     ) -> SizeReply;
+    fn usm_from_old(container: *const u8, len: usize, codecs: Codecs, out: *mut u8, out_len: usize) -> SizeReply;
+    fn usm_to_old(container: *const u8, len: usize, out: *mut u8, out_len: usize) -> SizeReply;
     fn usm_csv(bytes: *const u8, len: usize, place: usize, reading: Reading, out: *mut u8, out_len: usize)
     -> SizeReply;
     fn usm_salvage(container: *const u8, len: usize) -> SalvageReply;
@@ -370,6 +382,16 @@ pub fn write(name: &[u8], video: &[u8], audio: &[u8], packing: Packing, film: &m
         let [name, video, audio] = [name, video, audio].map(|bytes| (bytes.as_ptr(), bytes.len()));
         usm_write(name.0, name.1, video.0, video.1, audio.0, audio.1, packing, out, room)
     })
+}
+
+/// Moves a film from the old builder's container, likewise.
+pub fn from_old(container: &[u8], codecs: Codecs, film: &mut Vec<u8>) -> SizeReply {
+    fill(film, |out, room| unsafe { usm_from_old(container.as_ptr(), container.len(), codecs, out, room) })
+}
+
+/// Moves a film to the old builder's container, likewise.
+pub fn to_old(container: &[u8], film: &mut Vec<u8>) -> SizeReply {
+    fill(film, |out, room| unsafe { usm_to_old(container.as_ptr(), container.len(), out, room) })
 }
 
 /// Writes a table as CSV, likewise.

@@ -25,6 +25,7 @@
 //! | read the tables of its header, or any @UTF table | [`header_tables`], [`table`] |
 //! | mask and unmask payloads | [`mask`], [`unmask`], [`key_table`] |
 //! | pack streams into a film | [`pack`], [`pack_into`] |
+//! | move films of the old builder to films that can be read, and back | [`from_old`], [`to_old`] |
 //! | save what arrived of a film that was cut | [`salvage()`] |
 //! | check a film against the delivery profile | [`profile()`] |
 //! | divide a film's bytes among tenants | [`statement()`] |
@@ -43,6 +44,7 @@ mod film;
 mod header;
 mod index;
 mod masks;
+mod moves;
 mod pack;
 mod profile;
 mod reading;
@@ -60,6 +62,7 @@ pub use film::{AudioKind, Film, Outline, Track, VideoKind, extract, extract_into
 pub use header::{HeaderTable, header_tables};
 pub use index::{Entry, Index, Place, index};
 pub use masks::{KeyTable, Stream, key_table, mask, unmask};
+pub use moves::{Codecs, from_old, from_old_into, from_old_size, to_old, to_old_into};
 pub use pack::{Streams, pack, pack_into, packed_size};
 pub use profile::{Offence, Rule, profile};
 pub use reading::{Audio, Payloads, Reading};

@@ -55,6 +55,10 @@ pub enum Reason {
     MarkedPayload,
     /// 17: a header size below 0x18, with [`Payloads::AfterHeader`](crate::Payloads::AfterHeader).
     ShortHeader,
+    /// 19: not what the old builder writes, or, on the way back, no film that was moved from it.
+    Foreign,
+    /// 20: a film of the old builder with more than one audio.
+    ManyAudios,
     /// 21: no beginning of the film is accepted.
     NoBeginning,
     /// 22: no tenant, over 16 of them, or a number twice.
@@ -98,6 +102,8 @@ impl Reason {
             11 => Reason::TooLong,
             15 => Reason::MarkedPayload,
             17 => Reason::ShortHeader,
+            19 => Reason::Foreign,
+            20 => Reason::ManyAudios,
             21 => Reason::NoBeginning,
             22 => Reason::BadTenants,
             23 => Reason::CodecAlone,
@@ -123,6 +129,8 @@ impl Reason {
             Reason::TooLong => 11,
             Reason::MarkedPayload => 15,
             Reason::ShortHeader => 17,
+            Reason::Foreign => 19,
+            Reason::ManyAudios => 20,
             Reason::NoBeginning => 21,
             Reason::BadTenants => 22,
             Reason::CodecAlone => 23,
@@ -147,6 +155,8 @@ impl fmt::Display for Reason {
             Reason::TooLong => f.write_str("longer than 1,073,741,824 bytes"),
             Reason::MarkedPayload => f.write_str("a payload that begins with #CONTENTS END"),
             Reason::ShortHeader => f.write_str("a header that is too short"),
+            Reason::Foreign => f.write_str("neither a film of the old builder nor one moved from it"),
+            Reason::ManyAudios => f.write_str("more than one audio"),
             Reason::NoBeginning => f.write_str("no beginning of it is accepted"),
             Reason::BadTenants => f.write_str("no tenant, over 16 of them, or a number twice"),
             Reason::CodecAlone => f.write_str("an audio codec without audio"),

@@ -8,6 +8,7 @@ mod input;
 mod keys;
 mod list;
 mod memory;
+mod moves;
 mod output;
 mod pack;
 mod profile;

@@ -44,6 +44,21 @@ fn packing_takes_film_and_streams() {
 }
 
 #[test]
+fn moving_takes_both_films() {
+    let folder = Folder::new();
+    let film = usm::pack(usm::Streams::new(b"large", &vec![1; 200 * MIB]), None).unwrap();
+    folder.write("moved.usm", &film);
+    let most = 2 * film.len() + 64 * MIB;
+    assert_eq!(with_memory(&folder, most, "to-old moved.usm"), (0, String::new()));
+    assert_eq!(with_memory(&folder, most, "from-old moved.old.usm"), (0, String::new()));
+    for words in ["to-old --force moved.usm", "from-old --force moved.old.usm"] {
+        let (status, err) = with_memory(&folder, film.len() + film.len() / 2, words);
+        assert_eq!(status, 2);
+        assert!(err.contains(": no memory for "), "{err}");
+    }
+}
+
+#[test]
 fn a_list_takes_24_bytes_a_chunk() {
     let folder = Folder::new();
     let mut film = Film::new(&Header::default());

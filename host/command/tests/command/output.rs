@@ -4,11 +4,12 @@ use std::io::Write;
 use std::thread;
 use std::time::Duration;
 
-use crate::support::{Folder, KEY};
+use crate::support::{Folder, KEY, example};
 
 #[test]
 fn a_full_disk_is_an_error() {
     let folder = Folder::with_films();
+    folder.write("old.usm", &example("old.usm"));
     let full = "usm: standard output: No space left on device (os error 28)\n";
     for words in [
         "info f.usm",
@@ -28,6 +29,10 @@ fn a_full_disk_is_an_error() {
         "csv song.usm --force",
         "salvage song.usm --force",
         "salvage song.usm --force --json",
+        "from-old old.usm --force",
+        "from-old old.usm --force --json",
+        "to-old old.moved.usm --force",
+        "to-old old.moved.usm --force --json",
         "profile f.usm",
         "profile --json f.usm",
         "keys 1 2 f.usm",
