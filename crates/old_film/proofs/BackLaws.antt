@@ -28,16 +28,16 @@ use Rattle.old_film.proofs.FindLaws.{nameHead, nameTail, name-head-leng
 
 -- ---- the ends
 
-ends-letters : (track : Track) (audio : Bool) (sound : List ℕ) → front (bytes32 (lettersIn Old track)) (oldEnds (audiosOf audio sound)) ≡ false
+ends-letters : (track : Track) (audios : List (List ℕ)) → front (bytes32 (lettersIn Old track)) (oldEnds audios) ≡ false
 unfolding oldEnds oldHead sameBytes
-ends-letters Video true sound = refl
-ends-letters Video false sound = refl
-ends-letters (Audio number) true sound = refl
-ends-letters (Audio number) false sound = refl
+ends-letters Video [] = refl
+ends-letters Video (audio ∷ audios) = refl
+ends-letters (Audio number) [] = refl
+ends-letters (Audio number) (audio ∷ audios) = refl
 
 -- they are no chunks
-ends-none : (audio : Bool) (sound : List ℕ) → NoChunk Old (oldEnds (audiosOf audio sound))
-ends-none audio sound track from = other-letters Old track from (oldEnds (audiosOf audio sound)) (ends-letters track audio sound)
+pub ends-none : (audios : List (List ℕ)) → NoChunk Old (oldEnds audios)
+ends-none audios track from = other-letters Old track from (oldEnds audios) (ends-letters track audios)
 
 -- ---- the audio's block: where there is none, a chunk of the video stands, or an end
 
@@ -55,6 +55,37 @@ block-front true video sound silent =
     let more = chunksOf Old video sound ++ oldEnds (sound ∷ []) in
     ap (front block) (append-assoc block [] more) ∙ front-self block more
 block-front false video sound silent = rw (silent refl) (no-block (length video + 0) video)
+
+-- ---- the name
+
+module _ (name rest : List ℕ) (fits : 89 + length name < 2 ^ 32) where
+  abbrev named : List ℕ
+  named = tableBlock CRID (oldNames name) ++ rest
+
+  name-laid : named ≡ nameHead name ++ (name ++ (nameTail name ++ rest))
+  name-laid =
+      ap (λ (l : List ℕ). l ++ rest) (name-block name) ∙ append-assoc (nameHead name) (name ++ nameTail name) rest
+      ∙ ap (λ (l : List ℕ). nameHead name ++ l) (append-assoc name (nameTail name) rest)
+
+  size-back : be32 named 4 ≡ 89 + length name
+  unfolding oldHead
+  size-back = ap (λ (l : List ℕ). be32 l 4) name-laid ∙ whole32 (89 + length name) fits
+
+  pub name-there : nameIn named ≡ name
+  name-there =
+      let e : be32 named 4 - 89 ≡ length name = omega (arith, size-back) in
+      ap (partAt named 96) e ∙ ap (λ (l : List ℕ). partAt l 96 (length name)) name-laid
+      ∙ part-between (nameHead name) name (nameTail name ++ rest) 96 (length name) (name-head-length name) refl
+
+-- ---- behind the blocks of the name and the video
+
+pub behind-head : (name : List ℕ) (v : ℕ) (rest : List ℕ)
+    → drop (nameSize (length name) + 0x80) (tableBlock CRID (oldNames name) ++ (tableBlock SFV (oldVideo v) ++ rest)) ≡ rest
+behind-head name v rest =
+    let names = tableBlock CRID (oldNames name) in
+    let videos = tableBlock SFV (oldVideo v) in
+    sym (drop-drop 0x80 (nameSize (length name)) (names ++ (videos ++ rest)))
+    ∙ ap (drop 0x80) (drop-at names (videos ++ rest) (nameSize (length name)) (name-block-length name)) ∙ drop-at videos rest 0x80 (video-block-length v)
 
 -- ---- the parts
 
@@ -78,33 +109,14 @@ module _ (name video : List ℕ) (audio : Bool) (sound : List ℕ) (fits : 89 + 
   unfolding oldBytes
   laid = ap (λ (l : List ℕ). names ++ (videos ++ (audios ++ (l ++ oldEnds (audiosOf audio sound))))) (turns-same-old audio video sound silent)
 
-  abbrev more : List ℕ
-  more = nameTail name ++ (videos ++ (audios ++ chunks))
-
-  name-laid : container ≡ nameHead name ++ (name ++ more)
-  name-laid =
-      laid ∙ ap (λ (l : List ℕ). l ++ (videos ++ (audios ++ chunks))) (name-block name)
-      ∙ append-assoc (nameHead name) (name ++ nameTail name) (videos ++ (audios ++ chunks))
-      ∙ ap (λ (l : List ℕ). nameHead name ++ l) (append-assoc name (nameTail name) (videos ++ (audios ++ chunks)))
-
-  size-back : be32 container 4 ≡ 89 + length name
-  unfolding oldHead
-  size-back = ap (λ (l : List ℕ). be32 l 4) name-laid ∙ whole32 (89 + length name) fits
-
   name-back : nameIn container ≡ name
-  name-back =
-      let e : be32 container 4 - 89 ≡ length name = omega (arith, size-back) in
-      ap (partAt container 96) e ∙ ap (λ (l : List ℕ). partAt l 96 (length name)) name-laid
-      ∙ part-between (nameHead name) name more 96 (length name) (name-head-length name) refl
+  name-back = ap nameIn laid ∙ name-there name (videos ++ (audios ++ chunks)) fits
 
   abbrev place : ℕ
   place = nameSize (length name) + 0x80
 
   behind-video : drop place container ≡ audios ++ chunks
-  behind-video =
-      ap (drop place) laid ∙ sym (drop-drop 0x80 (nameSize (length name)) (names ++ (videos ++ (audios ++ chunks))))
-      ∙ ap (drop 0x80) (drop-at names (videos ++ (audios ++ chunks)) (nameSize (length name)) (name-block-length name))
-      ∙ drop-at videos (audios ++ chunks) 0x80 (video-block-length (length video))
+  behind-video = ap (drop place) laid ∙ behind-head name (length video) (audios ++ chunks)
 
   audio-back : standsAt (tableBlock SFA (oldAudio 0)) container place ≡ audio
   audio-back =
@@ -120,4 +132,4 @@ module _ (name video : List ℕ) (audio : Bool) (sound : List ℕ) (fits : 89 + 
   parts-back = rw (name-back, audio-back)
 
   pub streams-back : Gives video sound (length (chunksOf Old video sound)) (readIn Old audio (drop (place + audioSize audio) container))
-  streams-back = rw behind-blocks (read-back Old audio video sound (oldEnds (audiosOf audio sound)) silent (λ n. refl) (λ n. refl) (ends-none audio sound))
+  streams-back = rw behind-blocks (read-back Old audio video sound (oldEnds (audiosOf audio sound)) silent (λ n. refl) (λ n. refl) (ends-none (audiosOf audio sound)))
