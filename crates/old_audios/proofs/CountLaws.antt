@@ -1,15 +1,16 @@
 -- The blocks of audios, one after the other, and how many there are. Assumes nothing.
 use Prim.Native.Nat.{ℕ, zero, suc, _+_, _-_, _*_, _^_, _≤_, _<_}
 use mathlib.Core.Path.{_≡_, refl, sym, ap, ap₂, _∙_}
-use mathlib.Core.List.{List, [], _∷_}
+use mathlib.Core.List.{List, [], _∷_, _++_, append-assoc}
 use mathlib.Core.Bool.{Bool, true, false, _&&_}
 use native.Mathlib.Omega.{arith}
 use lib.ListN.{length, drop, length-append, length-drop}
-use lib.Seq.{drop-drop}
+use lib.Seq.{drop-drop, drop-at}
 use lib.Dec.{ltb}
 use borrow.Author.Tests.{ltb-true, ltb-false}
 use Rattle.signature.specs.Signatures.{SFA, sameBytes, standsAt}
-use Rattle.film_turns.proofs.FrontLaws.{stands-front, stands-then, front-fits, both-true}
+use Rattle.film_blocks.specs.Blocks.{bytes32}
+use Rattle.film_turns.proofs.FrontLaws.{front, stands-front, front-append, front-self, stands-then, front-fits, both-true}
 use Rattle.old_film.specs.Blocks.{oldHead, tableBlock}
 use Rattle.old_film.specs.Tables.{oldAudio}
 use Rattle.old_film.specs.Films.{audioBlocks}
@@ -125,3 +126,26 @@ blocks-stand (suc n) number bytes audios e =
           → standsAt (audioBlocks number audios) bytes 0 ≡ true
       pick true f g = some-stand number bytes audios (countFrom n (number + 1) (drop 0x60 bytes)) (e ∙ count-some n number bytes f) f g
       pick false f g = none-stand number bytes audios (e ∙ count-none n number bytes f)
+
+-- ---- blocks that are written are counted
+
+-- no block of an audio stands at the front
+abbrev pub NoBlock : List ℕ → Type 0
+NoBlock rest = (number : ℕ) → standsAt (block number) rest 0 ≡ false
+
+pub no-letters : (rest : List ℕ) → front (bytes32 SFA) rest ≡ false → NoBlock rest
+unfolding tableBlock oldHead
+no-letters rest e number =
+    stands-front (block number) rest 0 ∙ front-append (bytes32 SFA) (drop 4 (block number)) rest ∙ ap (λ (t : Bool). t && front (drop 4 (block number)) (drop 4 rest)) e
+
+pub count-back : (n number : ℕ) (audios : List (List ℕ)) (rest : List ℕ) → length audios ≤ n → NoBlock rest → countFrom n number (audioBlocks number audios ++ rest) ≡ length audios
+unfolding audioBlocks
+count-back zero number [] rest h none = count-zero number rest
+count-back (suc n) number [] rest h none = count-none n number rest (none number)
+count-back zero number (audio ∷ audios) rest h none = absurd (omega arith)
+count-back (suc n) number (audio ∷ audios) rest h none =
+    let others = audioBlocks (number + 1) audios ++ rest in
+    ap (countFrom (suc n) number) (append-assoc (block number) (audioBlocks (number + 1) audios) rest)
+    ∙ count-some n number (block number ++ others) (stands-front (block number) (block number ++ others) 0 ∙ front-self (block number) others)
+    ∙ ap (λ (l : List ℕ). suc (countFrom n (number + 1) l)) (drop-at (block number) others 0x60 (block-length number))
+    ∙ ap suc (count-back n (number + 1) audios rest (omega arith) none)

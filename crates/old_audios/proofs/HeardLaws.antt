@@ -33,7 +33,7 @@ payloads-stand from number (going ∷ goings) bytes =
 -- ---- each payload, and what its stream goes on with
 
 -- an audio that does not go on has no bytes
-abbrev Closed : List Bool → List (List ℕ) → Type 0
+abbrev pub Closed : List Bool → List (List ℕ) → Type 0
 Closed [] [] = Unit
 Closed [] (audio ∷ audios) = ⊥
 Closed (going ∷ goings) [] = ⊥
@@ -163,7 +163,7 @@ abbrev pub UpTo : ℕ → List (List ℕ) → Type 0
 UpTo n [] = Unit
 UpTo n (audio ∷ audios) = (length audio ≤ n) × UpTo n audios
 
-upto-more : (n m : ℕ) (audios : List (List ℕ)) → n ≤ m → UpTo n audios → UpTo m audios
+pub upto-more : (n m : ℕ) (audios : List (List ℕ)) → n ≤ m → UpTo n audios → UpTo m audios
 upto-more n m [] h u = tt
 upto-more n m (audio ∷ audios) h u = (omega (arith, u .0), upto-more n m audios h (u .1))
 

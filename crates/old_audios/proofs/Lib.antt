@@ -3,4 +3,7 @@ pub mod NextLaws
 pub mod StreamLaws
 pub mod HeardLaws
 pub mod ManyLaws
+pub mod StreamBackLaws
+pub mod BackLaws
+pub mod Promises
 pub mod OneAnswer

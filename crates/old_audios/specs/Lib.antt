@@ -1,1 +1,2 @@
 pub mod Audios
+pub mod Promises
