@@ -10,6 +10,8 @@ use Rattle.replay_fields.proofs.gap_in.Reads as gap-in
 use Rattle.replay_fields.proofs.is_hex.Reads as is-hex
 use Rattle.replay_fields.proofs.decode.Reads as decode
 use Rattle.replay_fields.proofs.number_of.Reads as number-of
+use Rattle.replay_fields.proofs.after_field.Reads as after-field
+use Rattle.replay_fields.proofs.number_at.Reads as number-at
 
 pub next-line-once : (κs : _) (args : _) (r r′ : _) (exit exit′ : _) → next-line.Learnt κs args r exit → next-line.Learnt κs args r′ exit′ → r ≡ r′
 next-line-once κs args r r′ exit exit′ l l′ = no-second-answer (l .0) (l′ .0)
@@ -34,3 +36,9 @@ decode-once κs args r r′ exit exit′ l l′ = (no-second-answer (l .0 .0) (l
 
 pub number-of-once : (κs : _) (args : _) (r r′ : _) (exit exit′ : _) → number-of.Learnt κs args r exit → number-of.Learnt κs args r′ exit′ → r ≡ r′
 number-of-once κs args r r′ exit exit′ = no-second-answer
+
+pub after-field-once : (κs : _) (args : _) (r r′ : _) (exit exit′ : _) → after-field.Learnt κs args r exit → after-field.Learnt κs args r′ exit′ → r ≡ r′
+after-field-once κs args r r′ exit exit′ l l′ = no-second-answer (l .0) (l′ .0)
+
+pub number-at-once : (κs : _) (args : _) (r r′ : _) (exit exit′ : _) → number-at.Learnt κs args r exit → number-at.Learnt κs args r′ exit′ → r ≡ r′
+number-at-once κs args r r′ exit exit′ = no-second-answer

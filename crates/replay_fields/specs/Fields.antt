@@ -76,3 +76,16 @@ numberFrom n (x ∷ xs) =
 -- the number that a text writes, which is not empty
 abbrev pub numberOf : List ℕ → Number
 numberOf text = cond (eqb (length text) 0) NotANumber (numberFrom 0 text)
+
+-- where the field starts that comes after the one at a place: past the space after it, or at the line's end
+abbrev pub afterField : List ℕ → ℕ → ℕ
+afterField line p = min (length line) (p + gapIn (drop p line) + 1)
+
+-- a number, or another where there is none
+unfoldable pub numberOr : ℕ → Number → ℕ
+numberOr other (Of n) = n
+numberOr other NotANumber = other
+
+-- the number that the field at a place writes, or another
+abbrev pub numberAt : List ℕ → ℕ → ℕ → ℕ
+numberAt line p other = numberOr other (numberOf (take (gapIn (drop p line)) (drop p line)))

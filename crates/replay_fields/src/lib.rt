@@ -6,7 +6,7 @@ ghost use Prim.Native.Nat.{_≤_, _<_, min};
 ghost use lib.ListN.{length, drop};
 ghost use Rattle.io.specs.Counts.{Counts};
 ghost use Rattle.part.specs.Parts.{IsPart};
-ghost use Rattle.replay_fields.specs.Fields.{nextLine, endsInLine, isMarked, restStart, gapIn, digitValue, isDigits, isHex, byteOf, decodedCount, decodedInto, numberOf};
+ghost use Rattle.replay_fields.specs.Fields.{nextLine, endsInLine, isMarked, restStart, gapIn, digitValue, isDigits, isHex, byteOf, decodedCount, decodedInto, numberOf, afterField, numberAt};
 
 // What a field is that should be a number.
 pub enum Number {
@@ -177,4 +177,27 @@ pub fn number_of(text: &[u8]) -> Number
         i += 1;
     }
     Number::Of(number)
+}
+
+// Where the field starts that comes after the one at a place; the line's end where none comes.
+pub fn after_field(line: &[u8], at: usize) -> usize
+    ensures { λ r. ⌜ r ≡ afterField (now (line .entry)) at ⌝ }
+    ensures { λ r. ⌜ r ≤ length (now (line .entry)) ⌝ }
+{
+    if line.len() <= at {
+        return line.len();
+    }
+    let gap = gap_in(rest_from(line, at));
+    least(line.len(), at + gap + 1)
+}
+
+// The number that the field at a place writes; another where it writes none.
+pub fn number_at(line: &[u8], at: usize, other: usize) -> usize
+    ensures { λ r. ⌜ r ≡ numberAt (now (line .entry)) at other ⌝ }
+{
+    let rest = rest_from(line, at);
+    match number_of(part::part_at(rest, 0, gap_in(rest))) {
+        Number::Of(number) => number,
+        Number::NotANumber => other,
+    }
 }

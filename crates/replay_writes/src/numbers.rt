@@ -1,7 +1,4 @@
 // The numbers on a line of the list, one space between each two.
-ghost use Prim.Native.Nat.{_≤_};
-ghost use lib.ListN.{length};
-use replay_fields::Number;
 
 // The numbers of a line, and whether it is one.
 pub(crate) struct Numbers {
@@ -27,29 +24,6 @@ const COUNT: usize = 13;
 // What stands for a text that is no number.
 const NONE: usize = 0x1_0000_0000;
 
-// Where the field starts that comes after the one at a place; the line's end where none comes.
-fn after_field(line: &[u8], from: usize) -> usize
-    ensures { λ r. ⌜ r ≤ length (now (line .entry)) ⌝ }
-{
-    if line.len() <= from {
-        return line.len();
-    }
-    let end = from + replay_fields::gap_in(&line[from..]);
-    if line.len() <= end {
-        return line.len();
-    }
-    end + 1
-}
-
-// The number that the field at a place writes.
-fn number_at(line: &[u8], from: usize) -> usize {
-    let rest = replay_fields::rest_from(line, from);
-    match replay_fields::number_of(part::part_at(rest, 0, replay_fields::gap_in(rest))) {
-        Number::Of(number) => number,
-        Number::NotANumber => NONE,
-    }
-}
-
 // The numbers on a line.
 pub(crate) fn numbers_on(line: &[u8]) -> Numbers {
     let mut n = [NONE; COUNT];
@@ -57,10 +31,10 @@ pub(crate) fn numbers_on(line: &[u8]) -> Numbers {
     let mut i = 0;
     let mut whole = true;
     while i < COUNT {
-        let number = number_at(line, from);
+        let number = replay_fields::number_at(line, from, NONE);
         n[i] = number;
         whole = whole & (number != NONE);
-        from = after_field(line, from);
+        from = replay_fields::after_field(line, from);
         i += 1;
     }
     Numbers {
