@@ -8,9 +8,10 @@ use numbers::Numbers;
 use reading::ReadingBytes;
 use replay_line::Line;
 use replies::FilmReply;
+use size_line::with_bytes;
+use size_line::with_number;
 use usm::KeyBytes;
 use usm::writing::PackingBytes;
-use written::SizeReply;
 
 // The bytes that names and streams are parts of, and those of an output.
 const SPACE: usize = 0x50000;
@@ -44,18 +45,6 @@ fn packing_of(n: Numbers) -> PackingBytes {
         has_video_codec: (n.has_video_codec % 256) as u8,
         has_audio_codec: (n.has_audio_codec % 256) as u8,
     }
-}
-
-// A line with a space and a number after it.
-fn with_number(line: Line, number: usize) -> Line {
-    line.word(b" ").decimal(number as u64)
-}
-
-// A line with the length and the digest of bytes after it.
-fn with_bytes(line: Line, bytes: &[u8]) -> Line {
-    with_number(line, bytes.len())
-        .word(b" ")
-        .hex(sample::digest(bytes), 8)
 }
 
 // A line with a codec after it: whether it is given, and its number.
@@ -103,19 +92,13 @@ fn read_back(film: &[u8], key: KeyBytes) {
     read_into(film, key, &mut video, &mut audio);
 }
 
-// A line with what the reply on a writing says after it.
-fn with_size(line: Line, reply: SizeReply) -> Line {
-    let line = with_number(line, reply.number as usize);
-    with_number(with_number(line, reply.refused_at), reply.size)
-}
-
 // Writes the film of a line from these bytes into an output, then the answer and the output, and what is read back.
 fn replay_write(n: Numbers, space: &[u8], out: &mut [u8]) {
     let name = part::part_at(space, NAME, n.name);
     let video = part::part_at(space, VIDEO, n.video);
     let audio = part::part_at(space, AUDIO, n.audio);
     let reply = usm::writing::usm_write(name, video, audio, packing_of(n), out);
-    with_bytes(with_size(replay_line::empty().word(b"write"), reply), out).end();
+    size_line::print(b"write", reply, out);
     if reply.number == 0 {
         read_back(part::part_at(out, 0, reply.size), key_of(n));
     }
