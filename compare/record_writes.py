@@ -223,6 +223,7 @@ def main(folder):
             out.write("".join(line + "\n" for line in lines))
 
 
-if len(sys.argv) != 2:
-    sys.exit("usage: python3 compare/record_writes.py FOLDER")
-main(sys.argv[1])
+if __name__ == "__main__":
+    if len(sys.argv) != 2:
+        sys.exit("usage: python3 compare/record_writes.py FOLDER")
+    main(sys.argv[1])

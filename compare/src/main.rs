@@ -3,6 +3,7 @@
 //!                               writes or moves
 //!   compare time [PART..]       both under one clock
 //!   compare record FOLDER       the original's answers for the replay programs, in this folder of crates
+//!   compare films               films of the original's builder, for record_moves.py
 //! It calls itself for what may take gigabytes: compare ask AUDIO.
 
 mod clock;
@@ -12,6 +13,7 @@ mod hex;
 mod panics;
 mod progress;
 mod random;
+mod record_films;
 mod reply;
 mod shrink;
 
@@ -176,9 +178,13 @@ fn main() -> ExitCode {
             ExitCode::SUCCESS
         }
         ["record", folder] => status(PARTS.iter().all(|part| record(part, Path::new(folder)))),
+        ["films"] => {
+            record_films::print();
+            ExitCode::SUCCESS
+        }
         ["ask", audio] => status(containers::child::answer(audio == "1").is_ok()),
         _ => {
-            eprintln!("compare check [PART..] | compare time [PART..] | compare record FOLDER");
+            eprintln!("compare check [PART..] | compare time [PART..] | compare record FOLDER | compare films");
             ExitCode::from(2)
         }
     }
