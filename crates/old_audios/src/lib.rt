@@ -104,6 +104,7 @@ fn next_audios(bytes: &[u8], start: usize, end: usize, place: usize, from: usize
     while at < end {
         let number = word::read32(bytes, at + 16) as u32;
         let len = len_at(bytes, at, Track::Audio(number), from, true);
+        // Where chunks of a turn stand, this is never so. Without it a length of 0 would keep the loop from ending.
         if len == 0 {
             return last;
         }
