@@ -5,10 +5,10 @@ use mathlib.Core.List.{List, [], _∷_, _++_}
 use mathlib.Core.Bool.{Bool, true, false, not, cond, _&&_, and-false}
 use mathlib.Core.Logic.{⊎-elim}
 use native.Mathlib.Omega.{arith}
-use lib.ListN.{length, take, drop, length-take, length-drop, length-append, length-replicate}
+use lib.ListN.{length, take, drop, length-drop, length-append, length-replicate}
 use lib.Seq.{drop-drop, length-take-le}
-use lib.Dec.{ltb, eqb}
-use borrow.Author.Tests.{le-leb, lt-leb, le-ltb, lt-ltb, eq-eqb, ne-eqb}
+use lib.Dec.{ltb}
+use borrow.Author.Tests.{le-leb, lt-leb, le-ltb, lt-ltb, ne-eqb}
 use Rattle.laws.proofs.Side.{side}
 use Rattle.part.specs.Parts.{partAt}
 use Rattle.signature.specs.Signatures.{contentsEnd, standsAt}

@@ -1,5 +1,5 @@
 -- What is read stands there: bytes begin with the turns of the streams that are read in them. Assumes nothing.
-use Prim.Native.Nat.{ℕ, zero, suc, _+_, _*_, _≤_, _<_}
+use Prim.Native.Nat.{ℕ, zero, suc, _+_, _*_, _≤_}
 use mathlib.Core.Path.{_≡_, refl, sym, ap, ap₂, _∙_}
 use mathlib.Core.List.{List, [], _∷_, _++_, append-nil, append-assoc}
 use mathlib.Core.Bool.{Bool, true, false, not, cond, _||_, _&&_}
@@ -7,16 +7,15 @@ use mathlib.Core.Logic.{_⊎_, ⊎-elim, inl, inr}
 use native.Mathlib.Omega.{arith}
 use lib.ListN.{length, take, drop, length-drop, length-append, drop-of-length-le}
 use lib.Seq.{drop-drop, take-all, take-at, drop-at}
-use lib.Dec.{ltb, eqb}
+use lib.Dec.{ltb}
 use borrow.Author.Tests.{eqb-true, ltb-false}
-use Rattle.laws.proofs.Side.{side}
 use Rattle.signature.specs.Signatures.{standsAt}
 use Rattle.film_turns.specs.declared.Track.{Track}
 use Rattle.film_turns.specs.declared.Track.the-variants.{Video, Audio}
 use Rattle.film_turns.specs.declared.Form.{Form}
-use Rattle.film_turns.specs.Chunks.{chunkOf, chunkSize, insideOf, isEnd, heldBy, payloadIn}
+use Rattle.film_turns.specs.Chunks.{chunkOf, chunkSize, insideOf, isEnd, payloadIn}
 use Rattle.film_turns.specs.Turns.{nextOf, turnsOf, chunksOf, Read, nothing, goesOn, seenIn, heardIn, turnSize, withTurn, readFrom, readIn}
-use Rattle.film_turns.proofs.FrontLaws.{front, stands-front, front-true, both-true}
+use Rattle.film_turns.proofs.FrontLaws.{stands-front, front-true}
 use Rattle.film_turns.proofs.ChunkLaws.{chunk-length, size-none}
 
 -- ---- a payload that is read

@@ -1,7 +1,7 @@
 -- Turns, one after the other: what is read so far, with what is read from here on, is all. Assumes nothing.
 use Prim.Native.Nat.{ℕ, zero, suc, _+_, _-_, _*_, _≤_, _<_}
 use mathlib.Core.Path.{_≡_, refl, sym, ap, _∙_}
-use mathlib.Core.List.{List, [], _++_}
+use mathlib.Core.List.{List}
 use mathlib.Core.Bool.{Bool, true, false, cond, _||_, or-false}
 use mathlib.Core.Logic.{⊎-elim}
 use native.Mathlib.Omega.{arith}
@@ -15,7 +15,7 @@ use Rattle.film_turns.specs.declared.Track.the-variants.{Video, Audio}
 use Rattle.film_turns.specs.declared.Form.{Form}
 use Rattle.film_turns.specs.declared.Seen.{Seen}
 use Rattle.film_turns.specs.declared.Turns.{Turns}
-use Rattle.film_turns.specs.Chunks.{chunkSize, payloadIn}
+use Rattle.film_turns.specs.Chunks.{chunkSize}
 use Rattle.film_turns.specs.Turns.{Read, nothing, goesOn, seenIn, heardIn, turnSize, withTurn, turnRead, readFrom, readIn, turnBy, turnsBy}
 use Rattle.film_turns.proofs.ChunkLaws.{Answers}
 

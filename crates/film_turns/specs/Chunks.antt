@@ -1,7 +1,7 @@
 -- Rules O4 and O5: a chunk with a payload, in both containers that a film is moved between: the builder's and request 1's.
 use Prim.Native.Nat.{ℕ, _+_, _-_}
-use mathlib.Core.List.{List, [], _∷_, _++_}
-use mathlib.Core.Bool.{Bool, true, false, not, cond, _&&_}
+use mathlib.Core.List.{List, [], _++_}
+use mathlib.Core.Bool.{Bool, false, not, cond, _&&_}
 use lib.ListN.{length}
 use lib.Dec.{ltb, eqb}
 use Rattle.word.specs.Numbers.{be16, be32}

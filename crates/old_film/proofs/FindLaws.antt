@@ -1,11 +1,11 @@
 -- What the builder writes around the chunks, piece by piece, and that a container is its film exactly when all pieces stand there. Assumes nothing.
 use Prim.Native.Nat.{ℕ, zero, suc, _+_, _-_, _*_, _^_, _≤_, _<_}
 use mathlib.Core.Path.{_≡_, refl, sym, ap, ap₂, _∙_}
-use mathlib.Core.List.{List, [], _∷_, _++_, append-nil, append-assoc, map}
+use mathlib.Core.List.{List, [], _∷_, _++_, append-nil, append-assoc}
 use mathlib.Core.Bool.{Bool, true, false, cond, _&&_}
 use mathlib.Core.Logic.{⊎-elim}
 use native.Mathlib.Omega.{arith}
-use lib.ListN.{length, take, drop, length-append, length-take, length-drop, length-replicate, replicate}
+use lib.ListN.{length, drop, length-append, length-take, length-drop, length-replicate, replicate}
 use lib.Dec.{eqb}
 use borrow.Author.Tests.{eq-eqb, ne-eqb, le-leb, lt-leb}
 use Rattle.laws.proofs.Side.{side}
@@ -14,15 +14,12 @@ use Rattle.part.specs.Parts.{partAt}
 use Rattle.signature.specs.Signatures.{CRID, SFV, SFA, sameBytes, standsAt}
 use Rattle.film_blocks.specs.Blocks.{zeros, padding}
 use Rattle.utf8.specs.Utf8.{isUtf8}
-use Rattle.film_turns.specs.declared.Track.{Track}
 use Rattle.film_turns.specs.declared.Track.the-variants.{Video, Audio}
 use Rattle.film_turns.specs.declared.Form.the-variants.{Old}
 use Rattle.film_turns.specs.declared.Turns.{Turns}
 use Rattle.film_turns.specs.Turns.{nextOf, turnsOf, chunksOf, Read, readIn, turnsBy}
 use Rattle.film_turns.proofs.FrontLaws.{front, stands-front, front-self, stands-then, part-stands, same-front}
 use Rattle.film_turns.proofs.ReadLaws.{no-audio, read-whole}
-use Rattle.old_film.specs.declared.OldFilm.{OldFilm}
-use Rattle.old_film.specs.declared.Found.{Found}
 use Rattle.old_film.specs.declared.Found.the-variants.{Film, Foreign}
 use Rattle.old_film.specs.Blocks.{oldHead, tableBlock, endBlock}
 use Rattle.old_film.specs.Tables.{nameStart, oldNames, oldVideo, oldAudio}

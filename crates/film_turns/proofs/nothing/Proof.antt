@@ -1,7 +1,6 @@
 -- `film_turns::nothing` meets its contract: the end marker is no part of no bytes. Assumes nothing.
 use mathlib.Core.Path.{refl}
 use Rattle.signature.specs.Signatures.{sameBytes}
-use borrow.Author.Needs.{needs}
 use Rattle.film_turns.proofs.nothing.Statement.{statement}
 use Rattle.film_turns.proofs.nothing.Tie as tie
 

@@ -1,5 +1,4 @@
 -- `utf8::due_next` meets its contract: the tests of the definition, in its order. Assumes nothing.
-use mathlib.Core.Path.{_∙_}
 use borrow.Author.Needs.{needs}
 use borrow.Author.Tests.{lt-ltb, le-ltb, eq-eqb, ne-eqb}
 use Rattle.utf8.specs.Utf8.{dueNext}
