@@ -14,7 +14,6 @@ use Rattle.reading.specs.Choices.{takesChannel}
 use Rattle.chunk.specs.declared.Kind.{Kind}
 use Rattle.chunk.specs.declared.Kind.the-variants.{Video, Audio, Other, End}
 use Rattle.chunk.specs.declared.Opening.{Opening}
-use Rattle.chunk.specs.declared.ChunkStep.{ChunkStep}
 use Rattle.chunk.specs.Openings.{openingAt}
 use Rattle.chunk.specs.Chunks.{isTaken, heldAt, takenAt, openedAt, chunkAt}
 use Rattle.chunk.specs.Promises as promised

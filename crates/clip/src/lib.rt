@@ -2,7 +2,7 @@
 // Request 7. Ours: the Rust has nothing of the kind.
 ghost use mathlib.Core.Path.{_≡_};
 ghost use Rattle.mask.specs.Positions.{lanesShown};
-ghost use Rattle.clip.specs.Clips.{laneTells, clipTells};
+ghost use Rattle.clip.specs.Clips.{clipTells};
 
 // From here on sound is masked.
 const TAIL: usize = 0x140;

@@ -4,7 +4,7 @@ ghost use mathlib.Core.Path.{_≡_};
 ghost use Prim.Native.Nat.{_+_, _%_, _≤_, _<_};
 ghost use lib.ListN.{length};
 ghost use Rattle.column.specs.Storages.{otherStorage, storageOf, inRecord, inRow, constantAt};
-ghost use Rattle.column.specs.Columns.{columnOf, columnFrom, columnAt};
+ghost use Rattle.column.specs.Columns.{columnFrom, columnAt};
 use cell::Cell;
 use cell::CellAnswer;
 use cell::Ending;

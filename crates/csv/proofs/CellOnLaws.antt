@@ -1,11 +1,10 @@
 -- The cell of a column in a row, by its storage: a law for each return of the code. Assumes nothing.
-use mathlib.Core.Path.{_≡_, refl, sym, ap, _∙_}
+use mathlib.Core.Path.{_≡_, refl}
 use mathlib.Core.List.{List}
 use Prim.Native.Nat.{ℕ, _+_, _%_}
 use Rattle.laws.specs.Lists.{at}
 use Rattle.refusal.specs.declared.Cause.the-variants.{UnknownStorage}
 use Rattle.layout.specs.declared.Layout.{Layout}
-use Rattle.cell.specs.declared.Cell.{Cell}
 use Rattle.cell.specs.declared.CellAnswer.{CellAnswer}
 use Rattle.cell.specs.declared.CellAnswer.the-variants.{Got, Refused}
 use Rattle.cell.specs.Cells.{cellAt, zeroCell}

@@ -1,7 +1,7 @@
 -- A byte within quotes, a field that is put byte by byte, what stands after a field, and a number by its sign: a law for each return of the code. Assumes nothing.
-use mathlib.Core.Path.{_≡_, refl, sym, ap, ap₂, _∙_, subst}
+use mathlib.Core.Path.{_≡_, refl, subst}
 use mathlib.Core.List.{List, [], _∷_, _++_}
-use mathlib.Core.Bool.{Bool, true, false, cond}
+use mathlib.Core.Bool.{Bool, true, false}
 use Prim.Native.Nat.{ℕ, zero, suc, _+_, _-_, _≤_, _<_}
 use native.Mathlib.Numerals.{add-one}
 use native.Mathlib.Nat.{not-suc-le-zero}
@@ -16,8 +16,6 @@ use mir.Val.{SFits, toZ, ofZ}
 use mir.Facts.{toZ-ofZ}
 use borrow.Author.Tests.{eq-eqb, ne-eqb, ltb-true}
 use Rattle.laws.specs.Lists.{at}
-use Rattle.laws.specs.Outputs.{Put}
-use Rattle.laws.proofs.PutLaws.{Left, less-left, none-left}
 use Rattle.text.specs.Numbers.{decimal}
 use Rattle.cell.specs.Cells.{bitsOf}
 use Rattle.cell.proofs.SignLaws.{flipped-bits, kept-bits}

@@ -1,6 +1,6 @@
 -- Lines and rows, one more column or row at a time: what is left of a line is its next field, what stands after that, and the rest. And how long
 -- they are: a body has less than 2 ^ 32 bytes, so a field has less than 2 ^ 34, and a table of 64 columns and 256 rows less than 2 ^ 49. Assumes nothing.
-use mathlib.Core.Path.{_≡_, refl, sym, ap, _∙_}
+use mathlib.Core.Path.{_≡_, refl, ap, _∙_}
 use mathlib.Core.List.{List, [], _∷_, _++_}
 use mathlib.Core.Bool.{Bool, true, false, cond}
 use Prim.Native.Nat.{ℕ, zero, suc, _+_, _-_, _*_, _^_, _≤_, _<_}

@@ -1,6 +1,6 @@
 -- The definitions compute: worked examples of what is written, and of what is read, also where the RFC has no rule. Assumes nothing.
 use mathlib.Core.Path.{_≡_, refl}
-use mathlib.Core.List.{List, [], _∷_}
+use mathlib.Core.List.{[], _∷_}
 use Prim.Native.Nat.{ℕ}
 use Rattle.csv_text.specs.Written.{quote, comma, cr, lf, isQuoted, doubled, fieldOf, recordOf, csvOf}
 use Rattle.csv_text.specs.Reading.{stepOf, readFrom, recordsIn}

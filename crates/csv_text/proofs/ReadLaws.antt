@@ -1,15 +1,14 @@
 -- What was written is read byte by byte: text in quotes, text without, a field and what stands after it, a record, and all records. Assumes nothing.
-use mathlib.Core.Path.{_≡_, refl, sym, ap, _∙_}
+use mathlib.Core.Path.{_≡_, refl, ap, _∙_}
 use mathlib.Core.List.{List, [], _∷_, _++_, append-assoc, append-nil}
-use mathlib.Core.Bool.{Bool, true, false, cond, _||_, _&&_}
+use mathlib.Core.Bool.{Bool, true, false, cond, _||_}
 use Prim.Native.Nat.{ℕ}
 use native.Mathlib.Omega.{arith}
 use lib.ListN.{length}
 use lib.Dec.{eqb}
 use borrow.Author.Tests.{eqb-true}
-use Rattle.laws.specs.Lists.{at}
 use Rattle.csv_text.specs.Written.{quote, comma, cr, lf, isMark, isQuoted, escaped, doubled, fieldOf, markAfter, recordOf, csvOf}
-use Rattle.csv_text.specs.Reading.{Stand, atRecord, atField, inField, inQuotes, afterQuote, stepOf, readFrom, recordsIn}
+use Rattle.csv_text.specs.Reading.{Stand, atRecord, atField, inField, inQuotes, stepOf, readFrom, recordsIn}
 use Rattle.csv_text.specs.Promises.{SomeInEach}
 
 -- ---- text within quotes

@@ -1,6 +1,6 @@
 -- The chunks of a written film break no rule: each has header size 0x18 and a size that is a multiple of 0x20, payloads stand before the ends, and there is one
 -- end for each stream. Assumes nothing.
-use Prim.Native.Nat.{ℕ, _+_, _%_, _≤_, _<_, _^_}
+use Prim.Native.Nat.{ℕ, _+_, _≤_, _<_, _^_}
 use mathlib.Core.Path.{_≡_, refl, sym, ap, _∙_}
 use mathlib.Core.List.{List, [], _∷_, _++_, map, append-assoc}
 use mathlib.Core.Bool.{Bool, true, false}
@@ -9,10 +9,9 @@ use lib.ListN.{length, length-append}
 use Rattle.word.specs.Numbers.{be16, be32}
 use Rattle.signature.specs.Signatures.{contentsEnd}
 use Rattle.reading.specs.declared.Applied.{Applied}
-use Rattle.chunk.specs.declared.Kind.{Kind}
 use Rattle.chunk.specs.declared.Chunk.{Chunk}
 use Rattle.unmasking.specs.declared.Unmasking.{Unmasking}
-use Rattle.film_blocks.specs.Blocks.{padding, blockOf}
+use Rattle.film_blocks.specs.Blocks.{blockOf}
 use Rattle.film_blocks.specs.Tables.{markerOf}
 use Rattle.film_plan.specs.declared.Stream as made
 use Rattle.film_plan.specs.declared.Stream.the-variants.{Video, Audio}
@@ -24,11 +23,11 @@ use Rattle.film_plan.proofs.PayloadLaws.{stored-length}
 use Rattle.repack.specs.Listing.{Line, kindFor, endLine, endLines, chunkIn, chunksFrom}
 use Rattle.repack.proofs.FromLaws.{From, from-next, from-as, be16-is}
 use Rattle.repack.proofs.BlockReadLaws.{block, letters-is, size-is, header-read}
-use Rattle.repack.proofs.WalkBackLaws.{Item, lineOf, blockFor, Good, AllGood, none, one}
+use Rattle.repack.proofs.WalkBackLaws.{Item, lineOf, blockFor, AllGood, none, one}
 use Rattle.profile.specs.declared.Stream.the-variants as stands
 use Rattle.profile.specs.declared.Streams.{Streams}
 use Rattle.profile.specs.Streams.{isClosed, isKnown, streamOf, firstOf, afterEnd, afterKind}
-use Rattle.profile.specs.Profiles.{plain, brokenBy, missing, lettersAt, judgedAt, judged}
+use Rattle.profile.specs.Profiles.{plain, lettersAt, judgedAt, judged}
 use Rattle.profile.proofs.RuleLaws.{none-broken}
 
 letters-fit : (stream : made.Stream) → lettersOf stream < 2 ^ 32

@@ -1,22 +1,16 @@
 -- The promise of specs/Promises.antt under its name: the film that the written bytes are has payloads by turns and then the ends, and none of them breaks a rule.
 -- Assumes nothing.
-use mathlib.Core.Path.{_≡_, refl, sym, ap, _∙_}
-use mathlib.Core.List.{List, map}
-use mathlib.Core.Bool.{true}
-use Prim.Native.Nat.{ℕ}
+use mathlib.Core.Path.{refl, sym, ap, _∙_}
 use lib.ListN.{length}
 use Rattle.reading.specs.Choices.{appliedTo}
-use Rattle.chunk.specs.declared.Chunk.{Chunk}
 use Rattle.unmasking.specs.Unmasking.{unmaskingOf}
-use Rattle.film.specs.Films.{Film}
 use Rattle.film_plan.specs.Films.{audioIn, filmBytes, bytesOf, headerBlocks}
 use Rattle.repack.proofs.StreamBackLaws.{items}
 use Rattle.repack.proofs.FilmBackLaws.{chunks-from, good, chunks-are}
 use Rattle.repack.proofs.Promises.{taken, silent, written-is, film-read}
-use Rattle.profile.specs.declared.Verdict.{Verdict}
 use Rattle.profile.specs.declared.Profiled.the-variants.{Judged}
 use Rattle.profile.specs.Streams.{firstOf}
-use Rattle.profile.specs.Profiles.{judged, heard, profiledAs, profileOf}
+use Rattle.profile.specs.Profiles.{judged, heard, profileOf}
 use Rattle.delivery.specs.Promises as promised
 use Rattle.delivery.proofs.PlainLaws.{film-plain}
 

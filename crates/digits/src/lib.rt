@@ -3,7 +3,6 @@
 // Rust: the rules rest on the bits of a key that count, and specs/Promises.antt says how.
 ghost use mathlib.Core.Path.{_≡_};
 ghost use Prim.Native.Nat.{_≤_, _<_};
-ghost use lib.ListN.{length};
 ghost use Rattle.digits.specs.TypedNumbers.{hexValue, prefixed, valueFrom, digitsRead, numberTyped, keyTyped, lengthTyped, tenantTyped};
 ghost use Rattle.digits.specs.KeyDigits.{digitAt, digitCounts, digitsDiffer};
 ghost use Rattle.digits.specs.Verdicts.{verdictOn};

@@ -5,7 +5,6 @@ use mathlib.Core.Path.{_≡_, refl, sym, ap, ap₂, _∙_}
 use mathlib.Core.List.{List, map}
 use mathlib.Core.Bool.{Bool, true, false}
 use native.Mathlib.Omega.{arith}
-use Rattle.reading.specs.declared.PayloadMode.{PayloadMode}
 use Rattle.reading.specs.declared.AudioChoice.the-variants.{Chosen, Channel}
 use Rattle.reading.specs.declared.Reading.{Reading}
 use Rattle.reading.specs.declared.Applied.{Applied}
@@ -13,8 +12,7 @@ use Rattle.reading.specs.Choices.{appliedTo}
 use Rattle.chunk.specs.declared.Chunk.{Chunk}
 use Rattle.chunk.specs.Channels.{only}
 use Rattle.chunk.proofs.ChannelLaws.{OneOf}
-use Rattle.walk.specs.Walks.{Walk, Ending, clean, stopped, walkFrom}
-use Rattle.walk.specs.Promises.{Plain}
+use Rattle.walk.specs.Walks.{Ending, clean, stopped, walkFrom}
 use Rattle.walk.proofs.ChannelLaws.{only-walk}
 use Rattle.walk.proofs.Promises.{ModesAgreeOnAWalk}
 use Rattle.block.specs.Blocks.{tableBlock, codecBlock, nameBlock}
@@ -22,7 +20,7 @@ use Rattle.header.specs.declared.Header.{Header}
 use Rattle.header.specs.declared.HeaderAnswer.{HeaderAnswer}
 use Rattle.header.specs.declared.HeaderAnswer.the-variants as answer
 use Rattle.header.specs.Headers.{step1, step2, step3, step3Audio, step4, step5, step6, step7, step7Table, headerOf}
-use Rattle.film.specs.Films.{Film, film, refused, endedAs, walkedAs, filmFrom, afterHeader, filmOf}
+use Rattle.film.specs.Films.{film, endedAs, walkedAs, filmFrom, afterHeader, filmOf}
 use Rattle.film.specs.Promises as promised
 use Rattle.film.specs.Promises.{withAudio, withPayloads}
 

@@ -2,7 +2,7 @@
 use Prim.Native.Nat.{ℕ}
 use mathlib.Core.Path.{_≡_}
 use mathlib.Core.List.{List}
-use denote.Ref.{RefT, now}
+use denote.Ref.{RefT}
 use Rattle.laws.proofs.OneAnswer.{no-second-answer}
 use Rattle.part.proofs.OneAnswer.{SamePart, one-part}
 use Rattle.film_name.specs.declared.Name.{Name}

@@ -2,7 +2,7 @@
 use Prim.Native.Nat.{ℕ}
 use mathlib.Core.List.{List}
 use denote.Ref.{RefT, now}
-use Rattle.part.specs.Parts.{partAt, IsPart, PartAt}
+use Rattle.part.specs.Parts.{IsPart, PartAt}
 use Rattle.cell.specs.declared.Cell.{Cell}
 use Rattle.cell.specs.declared.Cell.the-variants.{Nothing, Unsigned, Signed, Float, NotANumber, Text, Data}
 use Rattle.film_name.specs.declared.Name.{Name}

@@ -1,7 +1,7 @@
 // An index of a film's picture stream: an entry for each video payload, into a lent list. Request 8. `seek` asks it.
 // No function of the Rust makes one.
 ghost use mathlib.Core.Path.{_≡_};
-ghost use Prim.Native.Nat.{_+_, _≤_, _<_, _^_};
+ghost use Prim.Native.Nat.{_+_, _<_, _^_};
 ghost use lib.ListN.{length, set};
 ghost use lib.Seq.{sets};
 ghost use Rattle.walk.specs.Walks.{walkFrom};

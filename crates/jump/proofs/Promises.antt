@@ -1,7 +1,7 @@
 -- The promises of specs/Promises.antt, each under its name. An index that was built is the entries of the film's chunks; the entry that answers comes from a
 -- video chunk, and extraction puts that chunk's payload where the payloads before it end. Assumes nothing.
 use Prim.Native.Nat.{ℕ, _+_, _-_, _≤_, _<_}
-use mathlib.Core.Path.{_≡_, refl, sym, ap, ap₂, _∙_}
+use mathlib.Core.Path.{_≡_, refl, sym, ap, _∙_}
 use mathlib.Core.List.{List, [], _∷_, _++_}
 use native.Mathlib.Omega.{arith}
 use native.Mathlib.Nat.{zero-add}
@@ -11,7 +11,6 @@ use Rattle.reading.specs.declared.Applied.{Applied}
 use Rattle.chunk.specs.declared.Kind.{Kind}
 use Rattle.chunk.specs.declared.Kind.the-variants.{Video}
 use Rattle.chunk.specs.declared.Chunk.{Chunk}
-use Rattle.chunk.specs.declared.ChunkStep.the-variants.{Found}
 use Rattle.chunk.specs.Chunks.{chunkAt, payloadOf}
 use Rattle.chunk.proofs.Promises.{PayloadsLieWithin}
 use Rattle.walk.specs.Walks.{videoSize}
@@ -26,13 +25,11 @@ use Rattle.extract.specs.Streams.{videoPart}
 use Rattle.extract.specs.Extraction.{Extraction}
 use Rattle.extract.proofs.StreamLaws.{videoUnder}
 use Rattle.extract.proofs.ResultLaws.{its-walk, its-length, both-hold, video-at}
-use Rattle.list.specs.declared.ListReply.{ListReply}
-use Rattle.seek.specs.declared.Sought.{Sought}
 use Rattle.seek.specs.declared.Sought.the-variants.{At, PastTheEnd}
 use Rattle.seek.specs.Entries.{placeAt, lengthAt}
 use Rattle.seek.specs.Seeking.{begunBy, soughtIn}
 use Rattle.index.specs.Entries.{entriesOf}
-use Rattle.index.specs.Indexing.{silent, indexOf, Indexing}
+use Rattle.index.specs.Indexing.{silent, indexOf}
 use Rattle.index.proofs.IndexLaws.{replied}
 use Rattle.jump.specs.Promises as promised
 use Rattle.jump.specs.Promises.{HoldsAt, LeadsTo}

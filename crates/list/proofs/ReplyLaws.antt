@@ -1,5 +1,4 @@
 -- A reply whose number is 0 is that of a count: every cause of a refusal has another number. Assumes nothing.
-use Prim.Native.Nat.{ℕ}
 use mathlib.Core.Path.{_≡_, refl}
 use native.Mathlib.Omega.{arith}
 use Rattle.refusal.specs.declared.Cause.{Cause}

@@ -24,7 +24,7 @@ use Rattle.column.specs.declared.ColumnAnswer.the-variants.{Found, NoColumn}
 use Rattle.column.specs.declared.Column.{Column}
 use Rattle.column.specs.Storages.{cellIn}
 use Rattle.column.specs.Columns.{columnAt}
-use Rattle.column.proofs.BoundLaws.{KeptIn, column-kept}
+use Rattle.column.proofs.BoundLaws.{column-kept}
 use Rattle.lookup.specs.declared.Mark.{Mark}
 use Rattle.lookup.specs.declared.Mark.the-variants.{Nowhere, Marked}
 use Rattle.lookup.specs.Search.{searchFrom}

@@ -2,7 +2,6 @@
 use Prim.Native.Nat.{ℕ}
 use mathlib.Core.Path.{_≡_, refl}
 use mathlib.Core.List.{List, [], _∷_, map}
-use lib.ListN.{length}
 use lib.IntN.{pos}
 use Rattle.reading.specs.declared.TableMode.{TableMode}
 use Rattle.reading.specs.declared.TableMode.the-variants.{Original, ZeroColumns}

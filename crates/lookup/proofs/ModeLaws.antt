@@ -1,7 +1,7 @@
 -- A look-up among known columns is one in both modes: the search marks the same column, and that is read alike. Assumes nothing.
-use mathlib.Core.Path.{_≡_, refl, sym, ap, ap₂, _∙_}
+use mathlib.Core.Path.{_≡_, refl, sym, ap, _∙_}
 use mathlib.Core.List.{List}
-use mathlib.Core.Bool.{Bool, true, false, cond}
+use mathlib.Core.Bool.{Bool, true, false}
 use Prim.Native.Nat.{ℕ, zero, suc, _+_, _-_, _*_, _%_}
 use lib.ListN.{drop}
 use Rattle.laws.specs.Lists.{at}
@@ -13,7 +13,7 @@ use Rattle.cell.specs.Types.{widthOf}
 use Rattle.column.specs.declared.Storage.{Storage}
 use Rattle.column.specs.declared.ColumnAnswer.{ColumnAnswer}
 use Rattle.column.specs.declared.ColumnAnswer.the-variants.{Found, NoColumn}
-use Rattle.column.specs.Storages.{storageOf, recordOf, inRecord, rowOf, inRow}
+use Rattle.column.specs.Storages.{recordOf, inRecord, rowOf, inRow}
 use Rattle.column.specs.Columns.{columnAt}
 use Rattle.table.specs.Promises.{known, knownFrom, relaid}
 use Rattle.table.proofs.ModeLaws.{storage-agrees, known-here, known-later, in-stays, column-agrees}
@@ -21,7 +21,7 @@ use Rattle.lookup.specs.declared.Mark.{Mark}
 use Rattle.lookup.specs.declared.Mark.the-variants.{Nowhere, Marked}
 use Rattle.lookup.specs.Names.{spells}
 use Rattle.lookup.specs.Search.{markIf, searchFrom}
-use Rattle.lookup.specs.Lookups.{moved, shiftIn, columnCell, markedCell, searchedCell, bodyCell, placed, cellFrom}
+use Rattle.lookup.specs.Lookups.{moved, shiftIn, columnCell, markedCell, searchedCell, bodyCell, cellFrom}
 
 -- a marked column is known
 abbrev KnownMark : List ℕ → Mark → Type 0

@@ -1,6 +1,6 @@
 -- A loop over the chunks that stops at the first rule that is broken: what the chunks from here on break is what all of them break. Assumes nothing.
 use Prim.Native.Nat.{ℕ}
-use mathlib.Core.Path.{_≡_, refl, sym, ap, _∙_}
+use mathlib.Core.Path.{_≡_, sym, ap}
 use mathlib.Core.List.{List}
 use lib.ListN.{length}
 use borrow.Author.Tests.{eq-eqb, ne-eqb}
@@ -19,7 +19,7 @@ use Rattle.profile.specs.declared.Streams.{Streams}
 use Rattle.profile.specs.declared.Verdict.{Verdict}
 use Rattle.profile.specs.declared.Profiled.the-variants as profiled
 use Rattle.profile.specs.Streams.{afterKind, firstOf}
-use Rattle.profile.specs.Profiles.{missing, lettersAt, judgedAt, judged, heard, profiledAs, profileOf}
+use Rattle.profile.specs.Profiles.{missing, lettersAt, judgedAt, judged, heard, profileOf}
 
 module _ (container : List ℕ) (reading : Applied) where
   -- the verdict on the chunks from a place on

@@ -5,7 +5,7 @@ ghost use Prim.Native.Nat.{_+_, _≤_};
 ghost use lib.ListN.{length};
 ghost use Rattle.walk.specs.Walks.{walkFrom};
 ghost use Rattle.profile.specs.Streams.{isOpen, isClosed, closing, streamOf, streamNumber, isKnown, firstOf, afterEnd, afterKind};
-ghost use Rattle.profile.specs.Profiles.{plain, broken, brokenBy, missing, judgedAt, judged, profileOf, profileReply};
+ghost use Rattle.profile.specs.Profiles.{plain, broken, brokenBy, missing, judged, profileOf, profileReply};
 use chunk::Chunk;
 use chunk::ChunkStep;
 use chunk::Kind;

@@ -1,9 +1,7 @@
 // Why tenants have one copy of a film, and where the streams of two groups part. Request 13: the reasons that a statement is
 // printed with.
 ghost use mathlib.Core.Path.{_≡_};
-ghost use mathlib.Core.Bool.{not, _&&_};
-ghost use Prim.Native.Nat.{_%_, _≤_};
-ghost use lib.Dec.{eqb};
+ghost use Prim.Native.Nat.{_%_};
 ghost use Rattle.laws.specs.Lists.{at};
 ghost use Rattle.mask.specs.Positions.{headRowDiffers, videoDiffers, audioDiffers};
 ghost use Rattle.walk.specs.Walks.{walkFrom};

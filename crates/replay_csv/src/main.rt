@@ -1,7 +1,6 @@
 // Replays recorded CSV of @UTF tables: reads tables from standard input, and writes what `csv::write_csv` answers and leaves in an
 // output. README.md beside this crate has the format.
-ghost use Prim.Native.Nat.{_≤_, _<_};
-ghost use lib.ListN.{length};
+ghost use Prim.Native.Nat.{_<_};
 use libc::STDIN_FILENO;
 use libc::STDOUT_FILENO;
 use reading::TableMode;

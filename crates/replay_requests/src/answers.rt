@@ -1,6 +1,4 @@
 // The answers on a film, a line each: its verdict, its index, and the jumps by it.
-ghost use Prim.Native.Nat.{_≤_};
-ghost use lib.ListN.{length};
 use replay_line::Line;
 use seek::Sought;
 

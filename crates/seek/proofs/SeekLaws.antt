@@ -6,7 +6,6 @@ use mathlib.Core.Bool.{Bool, true, false, cond}
 use native.Mathlib.Omega.{arith}
 use lib.Dec.{eqb, ltb}
 use borrow.Author.Tests.{eq-eqb, ne-eqb, eqb-false, lt-ltb, le-ltb, ltb-true}
-use Rattle.seek.specs.declared.Sought.{Sought}
 use Rattle.seek.specs.declared.Sought.the-variants.{At, PastTheEnd}
 use Rattle.seek.specs.Entries.{placeAt, chunkIn, lengthAt}
 use Rattle.seek.specs.Seeking.{begunBy, inEntry, soughtIn}

@@ -1,14 +1,13 @@
 -- Counts, the lowest number and the first that is picked: they follow the test, and the order of the tenants does not matter to them. Of several that a test
 -- picks this holds of the first only where it picks no other. Assumes nothing.
-use Prim.Native.Nat.{ℕ, suc, _+_, _≤_, _<_, min}
+use Prim.Native.Nat.{ℕ, suc, _+_, _≤_, min}
 use mathlib.Core.Path.{_≡_, refl, sym, ap, ap₂, _∙_}
-use mathlib.Core.Logic.{_⊎_, inl, inr, ⊎-elim}
+use mathlib.Core.Logic.{_⊎_, ⊎-elim}
 use mathlib.Core.Bool.{Bool, true, false, cond}
 use mathlib.Core.List.{List, [], _∷_, List·Memᴰ, List·Memᴰ·head, List·Memᴰ·tail, List·Memᴰ·not-nil, List·Memᴰ·cases-cons, List·Permᴰ, List·Permᴰ·nil, List·Permᴰ·cons, List·Permᴰ·swap, List·Permᴰ·trans}
 use native.Mathlib.Omega.{arith}
 use lib.ListN.{length}
 use Rattle.shares.specs.Tenants.{numberIn, counted, lowest, firstOf}
-use Rattle.shares.proofs.LoopLaws.{at-most-one}
 
 -- ---- tests that agree
 

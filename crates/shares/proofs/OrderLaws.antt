@@ -1,13 +1,12 @@
 -- The order in which tenants are listed moves nothing: not whether they have a statement, not the tenant of a rank, not a line. Assumes nothing.
-use Prim.Native.Nat.{ℕ, zero, suc, _≤_, _<_}
+use Prim.Native.Nat.{ℕ, zero, suc}
 use mathlib.Core.Path.{_≡_, refl, sym, ap, ap₂, _∙_}
 use mathlib.Core.Bool.{Bool, _||_}
 use mathlib.Core.List.{List, _∷_, List·Permᴰ}
-use native.Mathlib.Omega.{arith}
 use lib.ListN.{length}
 use lib.Dec.{ltb, eqb}
 use Rattle.shares.specs.declared.Pick.the-variants.{Numbered, Below, Sharing, SharingBelow}
-use Rattle.shares.specs.Tenants.{numberIn, keyIn, sharing, picked, counted, isRepeated, repeated, areBad, hasRank, ranked}
+use Rattle.shares.specs.Tenants.{numberIn, keyIn, sharing, picked, isRepeated, repeated, areBad, hasRank, ranked}
 use Rattle.shares.specs.Shares.{portion, shareOf, groupOf, lineOf, lineAt, linesFrom}
 use Rattle.shares.proofs.CountLaws.{same-count, same-first, perm-length, perm-count, perm-first, perm-lowest}
 use Rattle.shares.proofs.RisingLaws.{Distinct, few-ranked}

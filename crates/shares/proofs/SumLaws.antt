@@ -10,7 +10,7 @@ use native.Mathlib.Omega.{arith}
 use lib.Dec.{ltb, eqb}
 use borrow.Author.Tests.{lt-ltb, le-ltb, ne-eqb}
 use Rattle.laws.proofs.Side.{side}
-use Rattle.shares.specs.declared.Pick.the-variants.{Sharing, SharingBelow}
+use Rattle.shares.specs.declared.Pick.the-variants.{SharingBelow}
 use Rattle.shares.specs.Tenants.{numberIn, keyIn, sharing, picked, counted}
 use Rattle.shares.specs.Shares.{portion, shareOf, groupOf}
 use Rattle.shares.proofs.LoopLaws.{at-most-one}

@@ -2,7 +2,6 @@
 // shows of a key is given by the length of a clip that shows as much.
 // Request 13. Ours: the Rust has nothing of the kind.
 ghost use mathlib.Core.Path.{_≡_};
-ghost use mathlib.Core.List.{[], _∷_};
 ghost use mathlib.Core.Bool.{cond};
 ghost use Prim.Native.Nat.{min, _≤_};
 ghost use lib.ListN.{length};

@@ -8,11 +8,9 @@ use mathlib.Core.List.{List}
 use native.Mathlib.Omega.{arith}
 use lib.ListN.{length, drop}
 use lib.Seq.{sets, sets-eq}
-use Rattle.codec.specs.declared.Codec.{Codec}
 use Rattle.mask.specs.Positions.{lanesShown}
 use Rattle.clip.specs.Clips.{clipTells}
 use Rattle.clip.proofs.LaneLaws.{agree, untold}
-use Rattle.chunk.specs.declared.Chunk.{Chunk}
 use Rattle.walk.specs.Walks.{walkFrom, videoSize, audioSize}
 use Rattle.unmasking.specs.declared.Key.the-variants.{Given}
 use Rattle.film.specs.Films.{Film, film, refused, filmOf, surveyOf}

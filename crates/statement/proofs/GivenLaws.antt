@@ -11,14 +11,14 @@ use borrow.Author.Tests.{ltb-false}
 use Rattle.refusal.specs.declared.Cause.the-variants.{TooLong, ShortList, BadTenants}
 use Rattle.film.specs.Films.{Film, film, refused}
 use Rattle.list.specs.declared.Listed.{Listed}
-use Rattle.list.specs.declared.Listed.the-variants.{Count, Refused}
+use Rattle.list.specs.declared.Listed.the-variants.{Count}
 use Rattle.list.specs.declared.ListReply.{ListReply}
 use Rattle.list.specs.Listing.{listReply}
 use Rattle.list.proofs.ReplyLaws.{counted}
 use Rattle.shown.specs.Shown.{shownOf}
 use Rattle.shares.specs.Tenants.{numberIn, repeated, areBad}
 use Rattle.shares.specs.Shares.{lineOf, linesFrom, lineAt}
-use Rattle.shares.proofs.CountLaws.{perm-length, perm-member}
+use Rattle.shares.proofs.CountLaws.{perm-member}
 use Rattle.shares.proofs.RisingLaws.{Distinct, distinct, rising, perm-rising, RisingFrom, rises, lines-are}
 use Rattle.statement.specs.Statements.{filmIn, refusedBy, statedIn, statedOf, copyOf, linesOf}
 use Rattle.statement.specs.Promises.{linesGiven, Answered}

@@ -2,9 +2,8 @@
 -- known of the lines. Assumes nothing.
 use Prim.Native.Nat.{ℕ, _+_, _<_}
 use mathlib.Core.Path.{_≡_, refl, sym, ap, ap₂, _∙_}
-use mathlib.Core.Logic.{_↔_, Iff·trans}
-use mathlib.Core.Bool.{Bool, true, false, cond, _||_}
-use mathlib.Core.List.{List, [], _∷_, map, List·Memᴰ, List·Permᴰ}
+use mathlib.Core.Bool.{Bool, true, false, cond}
+use mathlib.Core.List.{List, [], _∷_, map}
 use native.Mathlib.Omega.{arith}
 use lib.ListN.{length, getD}
 use lib.Dec.{ltb, eqb}
@@ -21,7 +20,7 @@ use Rattle.film.specs.Films.{surveyOf}
 use Rattle.walk.specs.Walks.{videoSize, audioSize}
 use Rattle.list.specs.declared.Listed.{Listed}
 use Rattle.list.specs.declared.Listed.the-variants.{Count, Refused}
-use Rattle.list.specs.Listing.{countedIn, listReply, filledBy}
+use Rattle.list.specs.Listing.{listReply, filledBy}
 use Rattle.shown.specs.Shown.{shownOf}
 use Rattle.shown.proofs.Promises.{SameStreamsExactlyWhenNotTold}
 use Rattle.shares.specs.Tenants.{numberIn, keyIn, repeated, areBad}

@@ -3,8 +3,6 @@
 //
 // What is decided is decided by functions of `statement`, `shares`, `reasons` and `digits`, which have contracts. What is here
 // only prints. No contract can say what is written, so the functions that print have none.
-ghost use lib.ListN.{length};
-ghost use mathlib.Core.Path.{_≡_};
 use film::Surveyed;
 use libc::STDOUT_FILENO;
 use list::ListReply;

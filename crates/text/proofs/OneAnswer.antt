@@ -1,6 +1,6 @@
 -- No second answer meets a contract of this crate: what a caller learns makes two counts, and two outputs at exit, equal. Assumes nothing.
 use Prim.Native.Nat.{ℕ, _+_}
-use mathlib.Core.Path.{_≡_, sym, _∙_}
+use mathlib.Core.Path.{_≡_}
 use mathlib.Core.List.{List}
 use native.Mathlib.Omega.{arith}
 use Rattle.laws.proofs.OneAnswer.{no-second-answer}

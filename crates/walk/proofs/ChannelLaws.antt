@@ -1,7 +1,7 @@
 -- A walk with one channel of audio, where the walk with all of it ends clean: the same chunks, those of another channel with their payloads skipped.
 -- Assumes nothing.
 use mathlib.Core.Path.{_≡_, refl, ap, _∙_}
-use mathlib.Core.List.{List, [], _∷_, map}
+use mathlib.Core.List.{List, map}
 use Prim.Native.Nat.{ℕ, zero, suc, _-_}
 use native.Mathlib.Omega.{arith}
 use lib.ListN.{length}

@@ -1,6 +1,6 @@
 -- A loop over the chunks of a container, stated once for every loop: what is done so far, with the rest from here, is the whole.
 -- What a loop gathers is a state of any type, to which each chunk adds. Assumes nothing.
-use mathlib.Core.Path.{_≡_, refl, sym, ap, _∙_}
+use mathlib.Core.Path.{_≡_, refl}
 use mathlib.Core.List.{List, [], _∷_}
 use Prim.Native.Nat.{ℕ}
 use Rattle.refusal.specs.declared.Refusal.{Refusal}
@@ -8,7 +8,7 @@ use Rattle.reading.specs.declared.Applied.{Applied}
 use Rattle.chunk.specs.declared.Chunk.{Chunk}
 use Rattle.chunk.specs.declared.ChunkStep.the-variants.{Over, Found, Refused}
 use Rattle.chunk.specs.Chunks.{chunkAt}
-use Rattle.walk.specs.Walks.{Walk, Ending, clean, stopped, onto, walkFrom}
+use Rattle.walk.specs.Walks.{Walk, clean, stopped, walkFrom}
 use Rattle.walk.proofs.WalkLaws.{walk-over, walk-found, walk-refused}
 
 -- a state after some chunks

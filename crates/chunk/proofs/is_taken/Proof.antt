@@ -1,5 +1,4 @@
 -- `chunk::is_taken` meets its contract, by cases of the kind: audio is asked by its channel. Assumes nothing.
-use mathlib.Core.Path.{_∙_}
 use borrow.Author.Needs.{needs}
 use Rattle.chunk.proofs.is_taken.Statement.{statement}
 use Rattle.chunk.proofs.is_taken.Tie as tie

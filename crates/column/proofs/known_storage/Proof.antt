@@ -1,5 +1,4 @@
 -- `column::known_storage` meets its contract: each arm knows the nibble. Assumes nothing.
-use borrow.Author.Needs.{needs}
 use borrow.Author.Tests.{ne-eqb}
 use Rattle.column.proofs.known_storage.Statement.{statement}
 use Rattle.column.proofs.known_storage.Tie as tie

@@ -1,6 +1,5 @@
 -- `csv::put_doubled` meets its contract: with the bytes that are left put after it, what stands there is the whole. Assumes nothing.
-use mathlib.Core.Path.{ap}
-use Prim.Native.Nat.{_-_, _+_, _≤_, _<_, _^_}
+use Prim.Native.Nat.{_-_, _+_, _<_, _^_}
 use native.Mathlib.Omega.{arith}
 use lib.ListN.{length, drop, length-append}
 use Rattle.laws.proofs.PutLaws.{Left, all-left, less-left, none-left, left-length}

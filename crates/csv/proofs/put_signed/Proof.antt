@@ -1,7 +1,7 @@
 -- `csv::put_signed` meets its contract: by the sign of the number. Assumes nothing.
 use mathlib.Core.Path.{ap}
 use native.Mathlib.Omega.{arith}
-use lib.ListN.{length, length-append}
+use lib.ListN.{length}
 use Rattle.laws.proofs.PutLaws.{put-as, put-then}
 use Rattle.cell.proofs.SignLaws.{flipped-small, kept-small}
 use Rattle.csv.proofs.FieldLaws.{negative-text, other-text}

@@ -1,7 +1,6 @@
 -- `csv_text::is_quoted` meets its contract: the rest of the field has the answer of the whole. Assumes nothing.
 use mathlib.Core.Path.{_≡_, refl, sym, _∙_}
 use Prim.Native.Nat.{_-_}
-use native.Mathlib.Omega.{arith}
 use lib.ListN.{length, drop}
 use borrow.Author.Needs.{needs}
 use Rattle.csv_text.specs.Written.{isQuoted}

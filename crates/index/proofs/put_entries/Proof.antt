@@ -1,6 +1,6 @@
 -- `index::put_entries` meets its contract: with the entries of the chunks from here on stored after it, what stands there is the whole index.
 -- Each chunk leaves fewer bytes; count and place fit the container. Assumes nothing.
-use mathlib.Core.Path.{_≡_, sym, _∙_}
+use mathlib.Core.Path.{sym, _∙_}
 use Prim.Native.Nat.{_-_}
 use native.Mathlib.Omega.{arith}
 use lib.ListN.{length}

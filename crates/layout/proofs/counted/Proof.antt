@@ -1,10 +1,6 @@
 -- `layout::counted` meets its contract: the counts are tested, and the layout holds the numbers as they were read. Assumes nothing.
-use mathlib.Core.Path.{_≡_, sym, _∙_}
-use Prim.Native.Nat.{_≤_}
 use native.Mathlib.Omega.{arith}
 use borrow.Author.Needs.{needs}
-use Rattle.word.specs.Numbers.{be16, be32}
-use Rattle.layout.specs.Layouts.{startOf}
 use Rattle.layout.proofs.LayoutLaws.{many-columns, many-rows, laid}
 use Rattle.layout.proofs.counted.Statement.{statement}
 use Rattle.layout.proofs.counted.Tie as tie

@@ -1,5 +1,5 @@
 -- `layout::read_layout` meets its contract: each return is a case of the layout, in the order of the refusals. Assumes nothing.
-use mathlib.Core.Path.{sym, ap, _∙_}
+use mathlib.Core.Path.{ap, _∙_}
 use Prim.Native.Nat.{ℕ, _-_}
 use native.Mathlib.Omega.{arith}
 use borrow.Author.Needs.{needs}

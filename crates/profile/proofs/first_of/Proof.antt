@@ -1,6 +1,5 @@
 -- `profile::first_of` meets its contract, with audio and without. Assumes nothing.
 use Rattle.profile.specs.Streams.{firstOf}
-use borrow.Author.Needs.{needs}
 use Rattle.profile.proofs.first_of.Statement.{statement}
 use Rattle.profile.proofs.first_of.Tie as tie
 

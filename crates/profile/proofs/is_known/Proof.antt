@@ -1,6 +1,5 @@
 -- `profile::is_known` meets its contract, by the letters. Assumes nothing.
 use borrow.Author.Tests.{eq-eqb, ne-eqb}
-use borrow.Author.Needs.{needs}
 use Rattle.profile.proofs.is_known.Statement.{statement}
 use Rattle.profile.proofs.is_known.Tie as tie
 

@@ -1,6 +1,5 @@
 -- `profile::stream_number` meets its contract, by the letters. Assumes nothing.
 use borrow.Author.Tests.{eq-eqb, ne-eqb}
-use borrow.Author.Needs.{needs}
 use Rattle.profile.proofs.stream_number.Statement.{statement}
 use Rattle.profile.proofs.stream_number.Tie as tie
 

@@ -1,7 +1,6 @@
 -- `profile::stream_of` meets its contract, by the letters. Assumes nothing.
 use borrow.Author.Tests.{eq-eqb, ne-eqb}
 use Rattle.profile.specs.Streams.{streamOf}
-use borrow.Author.Needs.{needs}
 use Rattle.profile.proofs.stream_of.Statement.{statement}
 use Rattle.profile.proofs.stream_of.Tie as tie
 

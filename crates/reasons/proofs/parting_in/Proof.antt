@@ -1,6 +1,5 @@
 -- `reasons::parting_in` meets its contract: the data type and whether the part is masked are the definition's tests. Assumes nothing.
 use mathlib.Core.Path.{sym, _∙_}
-use mathlib.Core.Bool.{and-false}
 use borrow.Author.Tests.{eq-eqb, ne-eqb}
 use Rattle.reasons.specs.Partings.{partingIn}
 use borrow.Author.Needs.{needs}

@@ -1,6 +1,5 @@
 -- `replay_requests::answers::jump_line` is safe and ends. Assumes nothing.
 use Prim.Native.Nat.{_-_, _≤_}
-use lib.ListN.{length}
 use borrow.Author.Needs.{needs}
 use Rattle.replay_requests.proofs.answers.jump_line.Statement.{statement}
 use Rattle.replay_requests.proofs.answers.jump_line.Tie as tie
