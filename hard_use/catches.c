@@ -6,10 +6,7 @@
 
 #include <signal.h>
 #include <stdio.h>
-#include <stdlib.h>
 #include <string.h>
-#include <sys/wait.h>
-#include <unistd.h>
 
 #define PAYLOAD 0x260
 
@@ -244,30 +241,6 @@ static const struct {
     {"usm_key_table, one byte before the buffer", before},
     {"usm_unmask_audio, a payload that is read-only", read_only_payload},
 };
-
-/* How a call ends in a process of its own: 0, or the signal that ends it. */
-static int signal_of(void (*call)(size_t lacks), size_t lacks)
-{
-    pid_t child;
-    int status;
-
-    fflush(stdout);
-    child = fork();
-    if (child < 0) {
-        perror("fork");
-        exit(2);
-    }
-    if (child == 0) {
-        signal(SIGSEGV, SIG_DFL);
-        call(lacks);
-        _exit(0);
-    }
-    if (waitpid(child, &status, 0) != child) {
-        perror("waitpid");
-        exit(2);
-    }
-    return WIFSIGNALED(status) ? WTERMSIG(status) : 0;
-}
 
 int show_catches(void)
 {

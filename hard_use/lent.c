@@ -1,15 +1,20 @@
 #define _GNU_SOURCE
 #include "lent.h"
 
+#include <inttypes.h>
+#include <signal.h>
 #include <stdio.h>
 #include <stdlib.h>
 #include <string.h>
 #include <sys/mman.h>
+#include <sys/wait.h>
 #include <unistd.h>
 
 /* What slices are filled with, from one of so many places on. */
 #define OLD_PLACES 256
 #define OLD_BYTES (1 << 20)
+
+#define CASES_AT_A_TIME 256
 
 static uint8_t old_bytes[OLD_BYTES + OLD_PLACES];
 
@@ -43,6 +48,19 @@ void make_memory(struct memory *memory, size_t room, int read_only)
     if (read_only)
         memory->own = (uint8_t *)mapped(NULL, room, PROT_READ | PROT_WRITE, MAP_SHARED, file);
     close(file);
+}
+
+uint8_t *make_zeros(size_t bytes)
+{
+    size_t page = (size_t)sysconf(_SC_PAGESIZE), room = (bytes + page - 1) / page * page;
+    uint8_t *whole = (uint8_t *)mapped(NULL, room + page, PROT_READ | PROT_WRITE,
+                                       MAP_PRIVATE | MAP_ANONYMOUS | MAP_NORESERVE, -1);
+
+    if (mprotect(whole + room, page, PROT_NONE) != 0) {
+        perror("mprotect");
+        exit(2);
+    }
+    return whole + room - bytes;
 }
 
 /* Where a slice of some bytes begins. */
@@ -89,4 +107,50 @@ int stays_from(const struct output *output, size_t from)
 
     return memcmp(output->whole, output->old, before) == 0 &&
            memcmp(output->whole + after, output->old + after, output->whole_len - after) == 0;
+}
+
+int signal_of(void (*call)(size_t which), size_t which)
+{
+    pid_t child;
+    int status;
+
+    fflush(stdout);
+    child = fork();
+    if (child < 0) {
+        perror("fork");
+        exit(2);
+    }
+    if (child == 0) {
+        signal(SIGSEGV, SIG_DFL);
+        call(which);
+        _exit(0);
+    }
+    if (waitpid(child, &status, 0) != child) {
+        perror("waitpid");
+        exit(2);
+    }
+    return WIFSIGNALED(status) ? WTERMSIG(status) : 0;
+}
+
+double seconds_by(clockid_t clock)
+{
+    struct timespec now;
+
+    clock_gettime(clock, &now);
+    return (double)now.tv_sec + (double)now.tv_nsec / 1e9;
+}
+
+void try_cases(const char *program, double seconds, enum edge edge, uint64_t *number, void (*try_case)(enum edge edge))
+{
+    double began = seconds_by(CLOCK_MONOTONIC);
+
+    for (*number = 0; seconds_by(CLOCK_MONOTONIC) - began < seconds;) {
+        alarm(60);
+        do
+            try_case(edge);
+        while (++*number % CASES_AT_A_TIME != 0);
+    }
+    alarm(0);
+    printf("%s: slices %s at a page that may not be touched, %" PRIu64 " cases\n", program,
+           edge == ENDS ? "end" : "begin", *number);
 }

@@ -10,6 +10,7 @@
 
 #include <stddef.h>
 #include <stdint.h>
+#include <time.h>
 
 /* On which side a slice has the page that may not be touched. */
 enum edge { ENDS, BEGINS };
@@ -25,6 +26,9 @@ struct memory {
 };
 
 void make_memory(struct memory *memory, size_t room, int read_only);
+
+/* Zeros that end at a page that may not be touched. They take memory only where they are written. */
+uint8_t *make_zeros(size_t bytes);
 
 /* Puts bytes into read-only memory and lends them. */
 const uint8_t *lend_bytes(struct memory *memory, enum edge edge, const uint8_t *bytes, size_t len);
@@ -42,5 +46,14 @@ struct output lend_output(struct memory *memory, enum edge edge, size_t len, str
 
 /* Whether the slice from a byte on, and what lies beside it, is as it was. */
 int stays_from(const struct output *output, size_t from);
+
+/* How a call ends in a process of its own: 0, or the signal that ends it. */
+int signal_of(void (*call)(size_t which), size_t which);
+
+double seconds_by(clockid_t clock);
+
+/* Tries cases with slices at one edge for some seconds, and prints how many. They are numbered from 0 on. Where 256 of
+ * them take over a minute, SIGALRM comes. */
+void try_cases(const char *program, double seconds, enum edge edge, uint64_t *number, void (*try_case)(enum edge edge));
 
 #endif

@@ -18,12 +18,8 @@
 #include <stdio.h>
 #include <stdlib.h>
 #include <sys/mman.h>
-#include <sys/wait.h>
-#include <time.h>
-#include <unistd.h>
 
 #define LONGEST ((size_t)USM_CONTAINER_BYTES)
-#define CASES_AT_A_TIME 256
 
 /* Where a cut of F is that lacks the last of the 45 bytes that its end chunk needs. */
 #define F_CUT (F_END + 44)
@@ -45,14 +41,6 @@ static void expect(int holds, const char *what)
         fprintf(stderr, "%02x", made.bytes[i]);
     fprintf(stderr, "\n");
     exit(1);
-}
-
-static double seconds_by(clockid_t clock)
-{
-    struct timespec now;
-
-    clock_gettime(clock, &now);
-    return (double)now.tv_sec + (double)now.tv_nsec / 1e9;
 }
 
 /* What extraction says of a film, with output sizes set aside: the number is 0 where it is accepted. */
@@ -134,52 +122,31 @@ static void try_case(enum edge edge)
     }
 }
 
-static void run_pass(double seconds, enum edge edge)
+/* A call on F, cut where its last byte decides, that is told of so many bytes more. */
+static void salvage_f(size_t more)
 {
-    double began = seconds_by(CLOCK_MONOTONIC);
+    uint8_t f[F_BYTES];
 
-    for (number = 0; seconds_by(CLOCK_MONOTONIC) - began < seconds;) {
-        alarm(60);
-        do
-            try_case(edge);
-        while (++number % CASES_AT_A_TIME != 0);
-    }
-    alarm(0);
-    printf("salvages: slices %s at a page that may not be touched, %" PRIu64 " cases\n",
-           edge == ENDS ? "end" : "begin", number);
+    make_f(f);
+    usm_salvage(lend_bytes(&memory, ENDS, f, F_CUT), F_CUT + more);
 }
 
 /* A call that is told of one byte more than there is ends by SIGSEGV, and with the right length does not. */
 static void show_catch(void)
 {
-    uint8_t f[F_BYTES];
-    int lacks, status;
-
-    make_f(f);
-    for (lacks = 0; lacks < 2; lacks++) {
-        pid_t child = fork();
-
-        if (child == 0) {
-            usm_salvage(lend_bytes(&memory, ENDS, f, F_CUT), F_CUT + (size_t)lacks);
-            _exit(0);
-        }
-        expect(waitpid(child, &status, 0) == child, "no process");
-        expect(lacks ? WIFSIGNALED(status) && WTERMSIG(status) == SIGSEGV : WIFEXITED(status),
-               "a call that reaches too far is not caught");
-    }
+    expect(signal_of(salvage_f, 0) == 0 && signal_of(salvage_f, 1) == SIGSEGV,
+           "a call that reaches too far is not caught");
 }
 
 /* F's header, then chunks of a block size up to the end of the longest film; the last one is refused. It
  * ends at a page that may not be touched, and takes no memory but for the chunks' sizes. */
 static void try_longest(size_t block_size, size_t expected)
 {
-    size_t page = (size_t)sysconf(_SC_PAGESIZE), at;
-    uint8_t *whole = (uint8_t *)mmap(NULL, LONGEST + page, PROT_READ | PROT_WRITE,
-                                     MAP_PRIVATE | MAP_ANONYMOUS | MAP_NORESERVE, -1, 0);
+    uint8_t *whole = make_zeros(LONGEST);
     struct usm_salvage_reply reply;
     double began;
+    size_t at;
 
-    expect(whole != MAP_FAILED && mprotect(whole + LONGEST, page, PROT_NONE) == 0, "no memory");
     make_f(whole);
     memset(whole + F_VIDEO, 0, F_BYTES - F_VIDEO);
     for (at = F_VIDEO; block_size != 0 && at + 8 <= LONGEST; at += 8 + block_size)
@@ -196,7 +163,6 @@ static void try_longest(size_t block_size, size_t expected)
     reply = usm_salvage(whole, LONGEST + 1);
     expect(reply.number == USM_TOO_LONG && reply.refused_at == 0 && reply.kept == 0,
            "another answer on a film of a byte more");
-    munmap(whole, LONGEST + page);
 }
 
 static void give_up(int signal_number)
@@ -220,8 +186,8 @@ int main(int count, char **words)
     show_catch();
     signal(SIGSEGV, give_up);
     signal(SIGALRM, give_up);
-    run_pass(seconds / 2, ENDS);
-    run_pass(seconds / 2, BEGINS);
+    try_cases("salvages", seconds / 2, ENDS, &number, try_case);
+    try_cases("salvages", seconds / 2, BEGINS, &number, try_case);
     printf("usm_salvage, answers by number:");
     for (i = 0; i < 256; i++)
         if (answers[i] != 0)

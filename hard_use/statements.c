@@ -19,12 +19,8 @@
 #include <stdio.h>
 #include <stdlib.h>
 #include <sys/mman.h>
-#include <sys/wait.h>
-#include <time.h>
-#include <unistd.h>
 
 #define LONGEST ((size_t)USM_CONTAINER_BYTES)
-#define CASES_AT_A_TIME 256
 
 /* The most tenants that have a statement, and the most that are tried. */
 #define MOST 16
@@ -56,14 +52,6 @@ static void expect(int holds, const char *what)
         fprintf(stderr, "%02x", made.bytes[i]);
     fprintf(stderr, "\n");
     exit(1);
-}
-
-static double seconds_by(clockid_t clock)
-{
-    struct timespec now;
-
-    clock_gettime(clock, &now);
-    return (double)now.tv_sec + (double)now.tv_nsec / 1e9;
 }
 
 static const struct usm_tenant *lend_tenants(enum edge edge, const struct usm_tenant *list, size_t count)
@@ -238,66 +226,33 @@ static void try_case(enum edge edge)
     }
 }
 
-static void run_pass(double seconds, enum edge edge)
-{
-    double began = seconds_by(CLOCK_MONOTONIC);
-
-    for (number = 0; seconds_by(CLOCK_MONOTONIC) - began < seconds;) {
-        alarm(60);
-        do
-            try_case(edge);
-        while (++number % CASES_AT_A_TIME != 0);
-    }
-    alarm(0);
-    printf("statements: slices %s at a page that may not be touched, %" PRIu64 " cases\n",
-           edge == ENDS ? "end" : "begin", number);
-}
-
 /* ---- what is caught */
 
-/* F, cut where its last byte decides, for three tenants; each slice lacks so many of what the call is told of. */
-static void state_f(size_t bytes, size_t records, size_t lines)
+/* F, cut where its last byte decides, for three tenants; one of what the call is told of is not there: a byte, a
+ * tenant or a line. */
+static void state_f(size_t lacks)
 {
     static const struct usm_tenant three[3] = {{3, 1}, {1, 2}, {2, 3}};
     struct chance chance = chance_of(1, 1);
-    struct output lent = lend_lines(ENDS, 3 - lines, &chance);
+    struct output lent = lend_lines(ENDS, 3 - (lacks == 3), &chance);
     uint8_t f[F_BYTES];
 
     make_f(f);
-    usm_statement(lend_bytes(&film_memory, ENDS, f, F_DECIDED - bytes), F_DECIDED,
-                  lend_tenants(ENDS, three, 3 - records), 3, lines_of(&lent), 3);
+    usm_statement(lend_bytes(&film_memory, ENDS, f, F_DECIDED - (lacks == 1)), F_DECIDED,
+                  lend_tenants(ENDS, three, 3 - (lacks == 2)), 3, lines_of(&lent), 3);
 }
 
 /* A call that is told of a byte, a tenant or a line more than there is ends by SIGSEGV; told the truth it ends well. */
 static void show_catches(void)
 {
-    int which, status;
+    size_t lacks;
 
-    for (which = 0; which < 4; which++) {
-        pid_t child = fork();
-
-        if (child == 0) {
-            state_f(which == 1, which == 2, which == 3);
-            _exit(0);
-        }
-        expect(waitpid(child, &status, 0) == child, "no process");
-        expect(which == 0 ? WIFEXITED(status) : WIFSIGNALED(status) && WTERMSIG(status) == SIGSEGV,
-               "a call that reaches too far is not caught");
-    }
+    for (lacks = 0; lacks < 4; lacks++)
+        expect(signal_of(state_f, lacks) == (lacks == 0 ? 0 : SIGSEGV), "a call that reaches too far is not caught");
     printf("statements: told of a byte, a tenant or a line more than lent, a call ends by SIGSEGV\n");
 }
 
 /* ---- the longest films */
-
-static uint8_t *mapped(size_t bytes)
-{
-    size_t page = (size_t)sysconf(_SC_PAGESIZE), room = (bytes + page - 1) / page * page;
-    uint8_t *whole = (uint8_t *)mmap(NULL, room + page, PROT_READ | PROT_WRITE,
-                                     MAP_PRIVATE | MAP_ANONYMOUS | MAP_NORESERVE, -1, 0);
-
-    expect(whole != MAP_FAILED && mprotect(whole + room, page, PROT_NONE) == 0, "no memory");
-    return whole + room - bytes;
-}
 
 /* The song's header, then chunks so many bytes apart, video and ADX audio by turns, the last one up to the end of the
  * longest film. */
@@ -305,7 +260,7 @@ static uint8_t *make_longest(size_t apart)
 {
     static struct song song;
     struct usm_chunk chunks[SONG_CHUNKS];
-    uint8_t *film = mapped(LONGEST);
+    uint8_t *film = make_zeros(LONGEST);
     size_t at, next, turn = 0;
 
     make_song(&song, 0);
@@ -326,7 +281,7 @@ static void time_longest(size_t apart, int runs)
 {
     uint8_t *film = make_longest(apart);
     size_t count = usm_list(film, LONGEST, USM_READ_WITH_AUDIO, NULL, 0).count, i;
-    struct usm_chunk *list = (struct usm_chunk *)(void *)mapped(count * sizeof *list);
+    struct usm_chunk *list = (struct usm_chunk *)(void *)make_zeros(count * sizeof *list);
     struct usm_share lines[MOST];
     uint64_t size = 0, sum = 0;
     double listing = 1e9, stating = 1e9;
@@ -384,8 +339,8 @@ int main(int count, char **words)
     show_catches();
     signal(SIGSEGV, give_up);
     signal(SIGALRM, give_up);
-    run_pass(seconds / 2, ENDS);
-    run_pass(seconds / 2, BEGINS);
+    try_cases("statements", seconds / 2, ENDS, &number, try_case);
+    try_cases("statements", seconds / 2, BEGINS, &number, try_case);
     printf("usm_statement, answers by number:");
     for (i = 0; i < 256; i++)
         if (answers[i] != 0)
