@@ -339,8 +339,7 @@ static void damage_field(struct made *made, struct chance *chance)
     put_number(made->bytes + field.at, field.width, number);
 }
 
-/* One damage. */
-static void damage(struct made *made, struct chance *chance)
+void damage(struct made *made, struct chance *chance)
 {
     size_t from, to, len;
 

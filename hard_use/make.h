@@ -29,6 +29,9 @@ struct made {
     size_t count;
 };
 
+/* Changes a byte, a bit, a span, the length or a field. */
+void damage(struct made *made, struct chance *chance);
+
 /* Makes a film: whole, damaged or no film at all. */
 void make_any_film(struct made *made, struct chance *chance);
 
