@@ -209,9 +209,9 @@ static inline const char *usm_reason(uint8_t number)
     case USM_UNKNOWN_STORAGE:
         return "unknown storage of a column";
     case USM_FOREIGN:
-        return "not a film of the old builder, nor moved from one";
+        return "neither a film of the old builder nor one moved from it";
     case USM_MANY_AUDIOS:
-        return "a film of the old builder with more than one audio";
+        return "more than one audio";
     case USM_NO_BEGINNING:
         return "no beginning is accepted";
     case USM_BAD_TENANTS:
