@@ -184,10 +184,10 @@ static void write_parts(struct moved *moved, struct old_parts parts, struct usm_
                                   (uint8_t)parts.audio_count,
                                   codecs.has_video_codec,
                                   codecs.has_audio_codec};
+    struct slice none = {NULL, 0}, audio = parts.audio_count ? parts.audios[0] : none;
 
-    moved->reply =
-        usm_write(parts.name.at, parts.name.len, parts.video.at, parts.video.len, parts.audio_count ? heard[0].at : NULL,
-                  parts.audio_count ? heard[0].len : 0, packing, moved->bytes, sizeof moved->bytes);
+    moved->reply = usm_write(parts.name.at, parts.name.len, parts.video.at, parts.video.len, audio.at, audio.len,
+                             packing, moved->bytes, sizeof moved->bytes);
 }
 
 static void expect_from(struct moved *moved, const uint8_t *film, size_t len, struct usm_codecs codecs)
@@ -387,29 +387,30 @@ static void try_turns(enum edge edge)
 
 /* ---- what is caught */
 
-/* Moves a small film of the builder, or it moved back; the container or the output lacks a byte of those that the call
- * is told of. */
-static void move_small(size_t lacks)
+/* Moves a small film of the builder, or from 3 on it moved back; the container (1, 4) or the output (2, 5) lacks a byte
+ * of those that the call is told of. */
+static void move_small(size_t which)
 {
     static const uint8_t streams[] = "0123456789";
+    static uint8_t old[4096], new[4096];
     struct slice audio = {streams, 4};
     struct old_parts parts = {{streams, 3}, {streams, 7}, &audio, 1};
-    struct move move = {lacks >= 3, {9, 2, 1, 1}};
+    struct move move = {which >= 3, {9, 2, 1, 1}};
+    size_t old_len = put_old_film(old, parts), new_len = usm_from_old(old, old_len, move.codecs, new, sizeof new).size;
+    size_t len = move.back ? new_len : old_len, room = move.back ? old_len : new_len;
     struct chance chance = chance_of(1, 1);
-    static uint8_t film[4096], other[4096];
-    size_t len = put_old_film(film, parts), other_len = usm_from_old(film, len, move.codecs, other, sizeof other).size;
-    struct output out = lend_output(&out_memory, ENDS, (move.back ? len : other_len) - (lacks % 3 == 2), &chance);
+    struct output out = lend_output(&out_memory, ENDS, room - (which % 3 == 2), &chance);
 
-    move_into(move, lend_bytes(&film_memory, ENDS, move.back ? other : film, (move.back ? other_len : len) - (lacks % 3 == 1)),
-              move.back ? other_len : len, out.at, move.back ? len : other_len);
+    move_into(move, lend_bytes(&film_memory, ENDS, move.back ? new : old, len - (which % 3 == 1)), len, out.at, room);
 }
 
 static void show_catches(void)
 {
-    size_t lacks;
+    size_t which;
 
-    for (lacks = 0; lacks < 6; lacks++)
-        expect(signal_of(move_small, lacks) == (lacks % 3 == 0 ? 0 : SIGSEGV), "a call that reaches too far is not caught");
+    for (which = 0; which < 6; which++)
+        expect(signal_of(move_small, which) == (which % 3 == 0 ? 0 : SIGSEGV),
+               "a call that reaches too far is not caught");
     printf("moves: told of a byte more than lent, of container or output, a call ends by SIGSEGV\n");
 }
 
