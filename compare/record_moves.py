@@ -3,7 +3,7 @@
 
     compare films | python3 compare/record_moves.py crates/replay_moves
 
-It reads films that the original's builder wrote, with what each is made of (compare/src/record_films.rs), and knows
+It reads films that the original's builder wrote, with what each is made of (compare/src/moves/record.rs), and knows
 nothing of the library. It states rules O of docs/RULES.md once more, in the plainest way: parts are taken where they
 should stand, with nothing checked, the film is put together anew from them, and both are compared whole. It stops
 where it would write another film than the builder wrote. Rules W are those of record_writes.py. The format of both

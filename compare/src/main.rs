@@ -13,7 +13,6 @@ mod hex;
 mod panics;
 mod progress;
 mod random;
-mod record_films;
 mod reply;
 mod shrink;
 
@@ -101,6 +100,7 @@ mod moves {
     pub mod names;
     pub mod original;
     pub mod parts;
+    pub mod record;
     pub mod shrink;
     pub mod tally;
     pub mod timing;
@@ -179,7 +179,7 @@ fn main() -> ExitCode {
         }
         ["record", folder] => status(PARTS.iter().all(|part| record(part, Path::new(folder)))),
         ["films"] => {
-            record_films::print();
+            moves::record::print();
             ExitCode::SUCCESS
         }
         ["ask", audio] => status(containers::child::answer(audio == "1").is_ok()),

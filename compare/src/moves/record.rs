@@ -1,55 +1,30 @@
 //! Prints films of the original's builder for the gate's replay of moves, one to a line, with what each is made of.
 //! Nothing of ours is called here.
 
-use std::io::Cursor;
-
-use oracle::usm::builder::UsmBuilder;
-
+use super::original::{Film, build};
 use crate::hex::hex;
 use crate::random::Random;
 
 const END: &[u8] = b"#CONTENTS END";
 
-/// What the builder is given.
-struct Film {
-    name: String,
-    video: Vec<u8>,
-    audios: Vec<Vec<u8>>,
-    key: Option<u64>,
-}
-
 /// Prints KEY NAME VIDEO AUDIO.. FILM for each film: the key in hex or `-`, then bytes in hex, which may be none.
 pub fn print() {
-    for film in films() {
-        let key = film.key.map_or("-".to_string(), |key| format!("{key:016x}"));
+    for (film, given) in films() {
+        let key = given.map_or("-".to_string(), |key| format!("{key:016x}"));
         let mut fields = vec![key, hex(film.name.as_bytes()), hex(&film.video)];
         fields.extend(film.audios.iter().map(|audio| hex(audio)));
-        fields.push(hex(&built(&film)));
+        fields.push(hex(&build(&film, given)));
         println!("{}", fields.join(" "));
     }
 }
 
-/// The film as the builder writes it.
-fn built(film: &Film) -> Vec<u8> {
-    let mut builder = UsmBuilder::new(film.name.as_str()).video(film.video.clone());
-    for audio in &film.audios {
-        builder.add_audio(audio.clone());
-    }
-    if let Some(key) = film.key {
-        builder = builder.encryption_key(key);
-    }
-    let mut bytes = Cursor::new(Vec::new());
-    builder.build(&mut bytes).expect("memory takes what is written");
-    bytes.into_inner()
-}
-
 /// Lengths around 4, 28 and 32, where the padding of a chunk begins anew or ends; every shape of name; no audio to
 /// three; frames that change at 1,000 bytes; the end marker, whole and cut; masked payloads; payloads by turns.
-fn films() -> Vec<Film> {
+fn films() -> Vec<(Film, Option<u64>)> {
     let mut random = Random(9);
     let mut films = Vec::new();
     let mut add = |name: &str, video: Vec<u8>, audios: Vec<Vec<u8>>, key: Option<u64>| {
-        films.push(Film { name: name.to_string(), video, audios, key });
+        films.push((Film { name: name.to_string(), video, audios }, key));
     };
     for length in [0, 1, 3, 4, 5, 27, 28, 29, 31, 32, 33, 36, 37] {
         add("plain.usm", random.bytes(length), vec![], None);
