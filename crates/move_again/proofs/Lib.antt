@@ -1,4 +1,5 @@
 mod CodecLaws
 mod ShortLaws
 mod AgainLaws
+mod BuiltLaws
 pub mod Promises

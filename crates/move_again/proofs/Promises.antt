@@ -1,7 +1,7 @@
 -- The promises of specs/Promises.antt, each under its name. Assumes nothing.
 use Prim.Native.Nat.{ℕ, _+_, _≤_}
 use mathlib.Core.Path.{_≡_, refl, sym, ap, ap₂, _∙_, subst}
-use mathlib.Core.List.{List}
+use mathlib.Core.List.{List, [], _∷_}
 use mathlib.Core.Bool.{Bool, true, false}
 use native.Mathlib.Omega.{arith}
 use lib.ListN.{length, take, drop}
@@ -14,13 +14,18 @@ use Rattle.written.specs.declared.Written.the-variants.{Size}
 use Rattle.written.specs.Written.{writtenIn, leftBy}
 use Rattle.written.proofs.RoomLaws.{planned-so}
 use Rattle.film_plan.specs.Planning.{refusedBy}
+use Rattle.old_film.specs.Films.{oldBytes}
 use Rattle.old_film.specs.Finding as old
+use Rattle.old_film.proofs.Promises.{FoundAgain}
+use Rattle.old_audios.specs.Audios.{isMany}
+use Rattle.old_audios.proofs.Promises.{SeveralAreTold}
 use Rattle.new_film.specs.Finding as new
 use Rattle.film_move.specs.FromOld.{newBytes, fromOld, FromOld}
 use Rattle.film_move.specs.ToOld.{oldOf, toOld}
 use Rattle.move_again.specs.Promises as promised
-use Rattle.move_again.specs.Promises.{Gives, Moved}
+use Rattle.move_again.specs.Promises.{Gives, Moved, Built}
 use Rattle.move_again.proofs.AgainLaws.{moved-taken, film-short, back-is, back-planned, new-short, onward-is, onward-planned, back-so}
+use Rattle.move_again.proofs.BuiltLaws.{film-longer, several-not-one, one-built, many-built}
 
 -- ---- what was put at the front of an output stands there
 
@@ -70,7 +75,35 @@ NewAgain c out out′ size back back′ r w room b =
     onward c (is .1) (is .0) back back′ r room
     (subst (λ (l : List ℕ). FromOld l (new.partsOf c .packing .«mpeg_codec») (new.partsOf c .packing .«audio_codec») back r back′) written b)
 
--- ---- what is refused by 19
+-- ---- what is refused by 19 and 20
+
+not-built : (c : List ℕ) (mpeg other : Codec) (t u : Bool) → length c ≤ 0x40000000 → old.isOld c ≡ t → isMany c ≡ u → (Built c → ⊥) → fromOld c mpeg other ≡ refusedBy Foreign
+unfolding fromOld
+not-built c mpeg other true u within e f h = absurd (h (one-built c e))
+not-built c mpeg other false true within e f h = absurd (h (many-built c f))
+not-built c mpeg other false false within e f h = rw (le-ltb 0x40000000 (length c) within, e, f)
+
+pub ForeignIsNotBuilt : promised.ForeignIsNotBuilt
+ForeignIsNotBuilt c mpeg other within h = not-built c mpeg other (old.isOld c) (isMany c) within refl refl h
+
+pub SeveralAreRefused : promised.SeveralAreRefused
+unfolding fromOld
+SeveralAreRefused name video [] mpeg other utf8 several within = absurd (omega arith)
+SeveralAreRefused name video (some ∷ []) mpeg other utf8 several within = absurd (omega arith)
+SeveralAreRefused name video (some ∷ (next ∷ audios)) mpeg other utf8 several within =
+    let longer = film-longer name video (some ∷ (next ∷ audios)) in
+    rw (
+      le-ltb 0x40000000 (length (oldBytes name video (some ∷ (next ∷ audios)))) within,
+      several-not-one name video some next audios (omega (arith, longer)),
+      SeveralAreTold name video (some ∷ (next ∷ audios)) utf8 (omega (arith, longer)) several (omega (arith, longer)),
+    )
+
+pub OthersAreWritten : promised.OthersAreWritten
+unfolding fromOld
+OthersAreWritten name video audio sound mpeg other utf8 silent within =
+    let longer = film-longer name video (old.audiosOf audio sound) in
+    let found = FoundAgain name video audio sound utf8 (omega (arith, longer)) silent in
+    rw (le-ltb 0x40000000 (length (oldBytes name video (old.audiosOf audio sound))) within, found .0, found .1 .0, found .1 .1, found .1 .3, found .1 .4)
 
 moved-back : (c : List ℕ) → Moved c → toOld c ≡ Size (length (oldOf (new.partsOf c)))
 moved-back c (film, (mpeg, (other, h))) =

@@ -1,17 +1,21 @@
 -- What moving a film to request 1's container and back promises. Each is proved under the same name in proofs/Promises.antt.
-use Prim.Native.Nat.{ℕ, _≤_}
+use Prim.Native.Nat.{ℕ, _≤_, _<_}
 use mathlib.Core.Path.{_≡_}
-use mathlib.Core.List.{List}
+use mathlib.Core.List.{List, []}
+use mathlib.Core.Bool.{Bool, true, false}
 use lib.ListN.{length, take}
 use lib.Seq.{sets}
-use Rattle.refusal.specs.declared.Cause.the-variants.{Foreign}
+use Rattle.refusal.specs.declared.Cause.the-variants.{Foreign, ManyAudios}
 use Rattle.refusal.specs.declared.Refusal.{Refusal}
 use Rattle.codec.specs.declared.Codec.{Codec}
 use Rattle.written.specs.declared.Written.{Written}
 use Rattle.written.specs.declared.Written.the-variants.{Size, Refused}
-use Rattle.film_plan.specs.Planning.{refusedBy}
+use Rattle.utf8.specs.Utf8.{isUtf8}
+use Rattle.film_plan.specs.Planning.{refusedBy, plannedOf}
+use Rattle.old_film.specs.Films.{oldBytes}
+use Rattle.old_film.specs.Finding.{audiosOf}
 use Rattle.new_film.specs.Finding.{partsOf}
-use Rattle.film_move.specs.FromOld.{FromOld}
+use Rattle.film_move.specs.FromOld.{packingOf, fromOld, FromOld}
 use Rattle.film_move.specs.ToOld.{oldOf, toOld, ToOld}
 
 -- an answer, and an output after it, that give bytes: they are as many as it says, and stand at the output's front
@@ -32,6 +36,31 @@ NewAgain =
     (container out out′ : List ℕ) (size : ℕ) (back back′ : List ℕ) (r : Written)
     → ToOld container out (Size size) out′ → length container ≤ length back
     → FromOld (take size out′) (partsOf container .packing .«mpeg_codec») (partsOf container .packing .«audio_codec») back r back′ → Gives container back r back′
+
+-- ---- what is refused by 19 and 20
+
+-- the builder writes a container: for some name in UTF-8, a video and audios
+abbrev pub Built : List ℕ → Type 0
+Built container = (name : List ℕ) × ((video : List ℕ) × ((audios : List (List ℕ)) × ((isUtf8 name ≡ true) × (container ≡ oldBytes name video audios))))
+
+-- "19 not exactly what that builder writes for one video and its audios": of containers within the limit, each that it does not write is refused by 19
+abbrev pub ForeignIsNotBuilt : Type 0
+ForeignIsNotBuilt =
+    (container : List ℕ) (mpeg-codec audio-codec : Codec) → length container ≤ 0x40000000 → (Built container → ⊥)
+    → fromOld container mpeg-codec audio-codec ≡ refusedBy Foreign
+
+-- "20 more than one audio": each that it writes for several audios is refused by 20
+abbrev pub SeveralAreRefused : Type 0
+SeveralAreRefused =
+    (name video : List ℕ) (audios : List (List ℕ)) (mpeg-codec audio-codec : Codec) → isUtf8 name ≡ true → 1 < length audios → length (oldBytes name video audios) ≤ 0x40000000
+    → fromOld (oldBytes name video audios) mpeg-codec audio-codec ≡ refusedBy ManyAudios
+
+-- "then 23, 11 for the result, 15 and 16": each that it writes for one audio, or none, is answered as request 1 answers for the same name and streams
+abbrev pub OthersAreWritten : Type 0
+OthersAreWritten =
+    (name video : List ℕ) (audio : Bool) (sound : List ℕ) (mpeg-codec audio-codec : Codec) → isUtf8 name ≡ true → (audio ≡ false → sound ≡ [])
+    → length (oldBytes name video (audiosOf audio sound)) ≤ 0x40000000
+    → fromOld (oldBytes name video (audiosOf audio sound)) mpeg-codec audio-codec ≡ plannedOf name video sound (packingOf audio mpeg-codec audio-codec)
 
 -- the move writes a container: from some film, with some codecs, wherever there is room for it
 abbrev pub Moved : List ℕ → Type 0
