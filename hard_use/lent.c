@@ -1,7 +1,6 @@
 #define _GNU_SOURCE
 #include "lent.h"
 
-#include <inttypes.h>
 #include <signal.h>
 #include <stdio.h>
 #include <stdlib.h>
@@ -13,8 +12,6 @@
 /* What slices are filled with, from one of so many places on. */
 #define OLD_PLACES 256
 #define OLD_BYTES (1 << 20)
-
-#define CASES_AT_A_TIME 256
 
 static uint8_t old_bytes[OLD_BYTES + OLD_PLACES];
 
@@ -138,19 +135,4 @@ double seconds_by(clockid_t clock)
 
     clock_gettime(clock, &now);
     return (double)now.tv_sec + (double)now.tv_nsec / 1e9;
-}
-
-void try_cases(const char *program, double seconds, enum edge edge, uint64_t *number, void (*try_case)(enum edge edge))
-{
-    double began = seconds_by(CLOCK_MONOTONIC);
-
-    for (*number = 0; seconds_by(CLOCK_MONOTONIC) - began < seconds;) {
-        alarm(60);
-        do
-            try_case(edge);
-        while (++*number % CASES_AT_A_TIME != 0);
-    }
-    alarm(0);
-    printf("%s: slices %s at a page that may not be touched, %" PRIu64 " cases\n", program,
-           edge == ENDS ? "end" : "begin", *number);
 }

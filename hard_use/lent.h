@@ -52,8 +52,4 @@ int signal_of(void (*call)(size_t which), size_t which);
 
 double seconds_by(clockid_t clock);
 
-/* Tries cases with slices at one edge for some seconds, and prints how many. They are numbered from 0 on. Where 256 of
- * them take over a minute, SIGALRM comes. */
-void try_cases(const char *program, double seconds, enum edge edge, uint64_t *number, void (*try_case)(enum edge edge));
-
 #endif

@@ -11,11 +11,9 @@
  */
 #define _GNU_SOURCE
 #include "../examples/old_films.h"
-#include "lent.h"
-#include "make.h"
+#include "trials.h"
 #include "usm.h"
 
-#include <inttypes.h>
 #include <signal.h>
 #include <stdio.h>
 #include <stdlib.h>
@@ -60,22 +58,7 @@ struct moved {
 };
 
 static struct memory film_memory, out_memory;
-static struct made made;
-static uint64_t seed, number, answers[2][256];
-
-static void expect(int holds, const char *what)
-{
-    size_t i;
-
-    if (holds)
-        return;
-    fflush(stdout);
-    fprintf(stderr, "moves: not as expected: %s, seed %" PRIu64 ", case %" PRIu64 "\n", what, seed, number);
-    for (i = 0; i < made.len; i++)
-        fprintf(stderr, "%02x", made.bytes[i]);
-    fprintf(stderr, "\n");
-    exit(1);
-}
+static uint64_t answers[2][256];
 
 static size_t be32(const uint8_t *at)
 {
@@ -330,12 +313,12 @@ static void note_heads(void)
     static const struct field HEAD[] = {{4, 4}, {8, 2}, {10, 2}, {12, 4}, {16, 4}};
     size_t at, i;
 
-    made.count = 0;
-    for (at = 0; at + 32 <= made.len; at += 32)
-        for (i = 0; i < COUNT(HEAD) && (is_at(made.bytes + at, "CRID") || made.bytes[at] == '@'); i++)
-            if (made.count < MADE_FIELDS) {
-                made.fields[made.count].at = at + HEAD[i].at;
-                made.fields[made.count++].width = HEAD[i].width;
+    trial.made.count = 0;
+    for (at = 0; at + 32 <= trial.made.len; at += 32)
+        for (i = 0; i < COUNT(HEAD) && (is_at(trial.made.bytes + at, "CRID") || trial.made.bytes[at] == '@'); i++)
+            if (trial.made.count < MADE_FIELDS) {
+                trial.made.fields[trial.made.count].at = at + HEAD[i].at;
+                trial.made.fields[trial.made.count++].width = HEAD[i].width;
             }
 }
 
@@ -343,22 +326,22 @@ static void note_heads(void)
 static void try_case(enum edge edge)
 {
     static struct moved written;
-    struct chance chance = chance_of(seed, number);
+    struct chance chance = chance_of(trial.seed, trial.number);
     struct usm_codecs codecs = codecs_by(&chance);
     struct old_parts parts = parts_by(&chance);
     size_t damages = once_in(&chance, 2) ? 0 : 1 + below(&chance, 2);
 
-    made.len = put_old_film(made.bytes, parts);
+    trial.made.len = put_old_film(trial.made.bytes, parts);
     if (once_in(&chance, 2) && parts.audio_count < 2) {
         codecs.has_audio_codec = parts.audio_count ? codecs.has_audio_codec : 0;
         write_parts(&written, parts, codecs);
-        made.len = written.reply.size;
-        memcpy(made.bytes, written.bytes, made.len);
+        trial.made.len = written.reply.size;
+        memcpy(trial.made.bytes, written.bytes, trial.made.len);
     }
     note_heads();
     for (; damages > 0; damages--)
-        damage(&made, &chance);
-    try_container(edge, made.bytes, made.len, codecs, &chance);
+        damage(&trial.made, &chance);
+    try_container(edge, trial.made.bytes, trial.made.len, codecs, &chance);
 }
 
 /* Streams of several turns, whole, and each with a byte changed in its last fourth. */
@@ -366,10 +349,10 @@ static void try_turns(enum edge edge)
 {
     static uint8_t film[MOST];
     static const struct usm_codecs NONE = {0, 0, 0, 0};
-    struct chance chance = chance_of(seed, 1);
+    struct chance chance = chance_of(trial.seed, 1);
     size_t v, a, len;
 
-    made.len = 0;
+    trial.made.len = 0;
     for (v = 0; v < COUNT(LONG); v++)
         for (a = 0; a <= COUNT(LONG); a++) {
             struct old_parts parts = {{NULL, 0}, {videos, LONG[v]}, heard, a < COUNT(LONG)};
@@ -454,45 +437,22 @@ static void try_many(const char *what, size_t count, size_t audio_len, uint8_t g
     free(list);
 }
 
-static void give_up(int signal_number)
-{
-    (void)signal_number;
-    expect(0, "a signal: a page was touched that may not be, or a call does not end");
-}
-
-static void print_answers(const char *name, const uint64_t *given)
-{
-    int i;
-
-    printf("%s, answers by number:", name);
-    for (i = 0; i < 256; i++)
-        if (given[i] != 0)
-            printf("  %d: %" PRIu64, i, given[i]);
-    printf("\n");
-}
-
 int main(int count, char **words)
 {
-    double seconds = count == 3 ? strtod(words[1], NULL) : 0;
+    double seconds = begin_trials("moves", count, words);
     size_t most = ((size_t)64 << 20) - 1024;
 
-    if (seconds <= 0) {
-        fprintf(stderr, "usage: moves SECONDS SEED\n");
-        return 2;
-    }
-    seed = strtoull(words[2], NULL, 10);
     make_memory(&film_memory, MOST, 1);
     make_memory(&out_memory, MOST + MARGIN, 0);
     show_catches();
-    signal(SIGSEGV, give_up);
-    signal(SIGALRM, give_up);
+    expect_no_signal();
     try_turns(ENDS);
     try_turns(BEGINS);
-    try_cases("moves", seconds / 2, ENDS, &number, try_case);
-    try_cases("moves", seconds / 2, BEGINS, &number, try_case);
+    try_cases(seconds, try_case);
     print_answers("usm_from_old", answers[0]);
-    print_answers("usm_to_old", answers[1]);
-    made.len = 0;
+    print_answers("\nusm_to_old", answers[1]);
+    printf("\n");
+    trial.made.len = 0;
     try_many("no audio:", 0, 0, USM_SHORT_ROOM);
     try_many("audios without a byte, as many as there can be:", most / (OLD_AUDIO + OLD_END), 0, USM_MANY_AUDIOS);
     try_many("audios of a byte, as many as there can be:", most / (OLD_AUDIO + OLD_END + 32), 1, USM_MANY_AUDIOS);

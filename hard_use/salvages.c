@@ -9,14 +9,12 @@
  */
 #define _GNU_SOURCE
 #include "../examples/films.h"
-#include "lent.h"
-#include "make.h"
+#include "trials.h"
 #include "usm.h"
 
 #include <inttypes.h>
 #include <signal.h>
 #include <stdio.h>
-#include <stdlib.h>
 #include <sys/mman.h>
 
 #define LONGEST ((size_t)USM_CONTAINER_BYTES)
@@ -26,22 +24,6 @@
 
 static const struct usm_key NO_KEY = {0, 0};
 static struct memory memory;
-static struct made made;
-static uint64_t seed, number;
-
-static void expect(int holds, const char *what)
-{
-    size_t i;
-
-    if (holds)
-        return;
-    fflush(stdout);
-    fprintf(stderr, "salvages: not as expected: %s, seed %" PRIu64 ", case %" PRIu64 "\n", what, seed, number);
-    for (i = 0; i < made.len; i++)
-        fprintf(stderr, "%02x", made.bytes[i]);
-    fprintf(stderr, "\n");
-    exit(1);
-}
 
 /* What extraction says of a film, with output sizes set aside: the number is 0 where it is accepted. */
 static struct usm_film_reply asked(const uint8_t *film, size_t len)
@@ -111,14 +93,14 @@ static void try_film(const uint8_t *film, size_t len)
 /* A case: a film, and three of its beginnings. */
 static void try_case(enum edge edge)
 {
-    struct chance chance = chance_of(seed, number);
+    struct chance chance = chance_of(trial.seed, trial.number);
     int i;
 
-    make_any_film(&made, &chance);
-    try_film(lend_bytes(&memory, edge, made.bytes, made.len), made.len);
+    make_any_film(&trial.made, &chance);
+    try_film(lend_bytes(&memory, edge, trial.made.bytes, trial.made.len), trial.made.len);
     for (i = 0; i < 3; i++) {
-        made.len = below(&chance, made.len + 1);
-        try_film(lend_bytes(&memory, edge, made.bytes, made.len), made.len);
+        trial.made.len = below(&chance, trial.made.len + 1);
+        try_film(lend_bytes(&memory, edge, trial.made.bytes, trial.made.len), trial.made.len);
     }
 }
 
@@ -165,33 +147,17 @@ static void try_longest(size_t block_size, size_t expected)
            "another answer on a film of a byte more");
 }
 
-static void give_up(int signal_number)
-{
-    (void)signal_number;
-    expect(0, "a signal: a page was touched that may not be, or a call does not end");
-}
-
 int main(int count, char **words)
 {
-    double seconds = count == 3 ? strtod(words[1], NULL) : 0;
+    double seconds = begin_trials("salvages", count, words);
     int i;
 
-    if (seconds <= 0) {
-        fprintf(stderr, "usage: salvages SECONDS SEED\n");
-        return 2;
-    }
-    seed = strtoull(words[2], NULL, 10);
     make_memory(&memory, MADE_BYTES, 1);
     expect(sizeof(struct usm_salvage_reply) == 32, "a reply of another size than usm.h says");
     show_catch();
-    signal(SIGSEGV, give_up);
-    signal(SIGALRM, give_up);
-    try_cases("salvages", seconds / 2, ENDS, &number, try_case);
-    try_cases("salvages", seconds / 2, BEGINS, &number, try_case);
-    printf("usm_salvage, answers by number:");
-    for (i = 0; i < 256; i++)
-        if (answers[i] != 0)
-            printf("  %d: %" PRIu64, i, answers[i]);
+    expect_no_signal();
+    try_cases(seconds, try_case);
+    print_answers("usm_salvage", answers);
     printf("; causes:");
     for (i = 0; i < 256; i++)
         if (causes[i] != 0)

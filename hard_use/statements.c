@@ -10,14 +10,12 @@
 #define _GNU_SOURCE
 #include "../examples/films.h"
 #include "../examples/replies.h"
-#include "lent.h"
-#include "make.h"
+#include "trials.h"
 #include "usm.h"
 
 #include <inttypes.h>
 #include <signal.h>
 #include <stdio.h>
-#include <stdlib.h>
 #include <sys/mman.h>
 
 #define LONGEST ((size_t)USM_CONTAINER_BYTES)
@@ -33,25 +31,15 @@
 #define F_DECIDED (F_END + 45)
 
 static struct memory film_memory, tenant_memory, line_memory;
-static struct made made;
 static struct usm_tenant tenants[TRIED];
 static size_t tenant_count;
-static uint64_t seed, number;
 
-static void expect(int holds, const char *what)
+static void tell_tenants(void)
 {
     size_t i;
 
-    if (holds)
-        return;
-    fflush(stdout);
-    fprintf(stderr, "statements: not as expected: %s, seed %" PRIu64 ", case %" PRIu64 "\n", what, seed, number);
     for (i = 0; i < tenant_count; i++)
         fprintf(stderr, "%" PRIu64 ":%016" PRIX64 " ", tenants[i].number, tenants[i].key);
-    for (i = 0; i < made.len; i++)
-        fprintf(stderr, "%02x", made.bytes[i]);
-    fprintf(stderr, "\n");
-    exit(1);
 }
 
 static const struct usm_tenant *lend_tenants(enum edge edge, const struct usm_tenant *list, size_t count)
@@ -90,8 +78,8 @@ static void make_clips(struct chance *chance)
         fill_by_chance(chance, payload, len);
         add_chunk(&song.stored, video ? "@SFV" : "@SFA", once_in(chance, 6) ? 1 : 0, payload, len);
     }
-    memcpy(made.bytes, song.stored.bytes, song.stored.len);
-    made.len = song.stored.len;
+    memcpy(trial.made.bytes, song.stored.bytes, song.stored.len);
+    trial.made.len = song.stored.len;
 }
 
 /* A key that often has one copy with another one: the same, or one that differs in few bits. */
@@ -195,27 +183,27 @@ static struct usm_list_reply expected_reply(const uint8_t *film, size_t len)
 /* A case: a film, tenants, and lists of every length. */
 static void try_case(enum edge edge)
 {
-    struct chance chance = chance_of(seed, number);
+    struct chance chance = chance_of(trial.seed, trial.number);
     const struct usm_tenant *given;
     struct usm_list_reply enough;
     const uint8_t *film;
     size_t room;
 
     if (once_in(&chance, 2))
-        make_any_film(&made, &chance);
+        make_any_film(&trial.made, &chance);
     else
         make_clips(&chance);
     make_tenants(&chance);
-    film = lend_bytes(&film_memory, edge, made.bytes, made.len);
+    film = lend_bytes(&film_memory, edge, trial.made.bytes, trial.made.len);
     given = lend_tenants(edge, tenants, tenant_count);
     if (tenant_count == 0 && once_in(&chance, 2))
         given = NULL;
-    enough = expected_reply(film, made.len);
+    enough = expected_reply(film, trial.made.len);
     for (room = 0; room <= tenant_count + 1; room++) {
         struct output lines = lend_lines(edge, room, &chance);
         int is_short = enough.number == USM_ACCEPTED && room < tenant_count;
         int is_filled = enough.number == USM_ACCEPTED && !is_short;
-        struct usm_list_reply reply = usm_statement(film, made.len, given, tenant_count,
+        struct usm_list_reply reply = usm_statement(film, trial.made.len, given, tenant_count,
                                                     room == 0 && once_in(&chance, 2) ? NULL : lines_of(&lines), room);
 
         answers[reply.number]++;
@@ -316,35 +304,19 @@ static void time_longest(size_t apart, int runs)
            count, apart, listing * 1e3, stating * 1e3, stating / listing);
 }
 
-static void give_up(int signal_number)
-{
-    (void)signal_number;
-    expect(0, "a signal: a page was touched that may not be, or a call does not end");
-}
-
 int main(int count, char **words)
 {
-    double seconds = count == 3 ? strtod(words[1], NULL) : 0;
-    int i;
+    double seconds = begin_trials("statements", count, words);
 
-    if (seconds <= 0) {
-        fprintf(stderr, "usage: statements SECONDS SEED\n");
-        return 2;
-    }
-    seed = strtoull(words[2], NULL, 10);
+    trial.tell = tell_tenants;
     make_memory(&film_memory, MADE_BYTES, 1);
     make_memory(&tenant_memory, TRIED * sizeof *tenants, 1);
     make_memory(&line_memory, (TRIED + 1) * sizeof *expected, 0);
     expect(sizeof(struct usm_tenant) == 16 && sizeof(struct usm_share) == 24, "records of other sizes than usm.h says");
     show_catches();
-    signal(SIGSEGV, give_up);
-    signal(SIGALRM, give_up);
-    try_cases("statements", seconds / 2, ENDS, &number, try_case);
-    try_cases("statements", seconds / 2, BEGINS, &number, try_case);
-    printf("usm_statement, answers by number:");
-    for (i = 0; i < 256; i++)
-        if (answers[i] != 0)
-            printf("  %d: %" PRIu64, i, answers[i]);
+    expect_no_signal();
+    try_cases(seconds, try_case);
+    print_answers("usm_statement", answers);
     printf("; %" PRIu64 " statements, %" PRIu64 " with several groups; %" PRIu64 " pairs of two keys with one copy; "
            "%" PRIu64 " lines of groups with a remainder\n",
            statements, several, shared / 2, remainders);
