@@ -624,6 +624,29 @@ struct usm_list_reply usm_statement(const uint8_t *container, size_t len,
                                     const struct usm_tenant *tenants, size_t tenant_count,
                                     struct usm_share *lines, size_t room);
 
+/*
+ * The bits of a key that a film shows. Of the numbers it gives: USM_TOO_LONG, then those of the header and of the
+ * chunks, with `refused_at`; what usm_extract refuses with that reading, and no other (USM_SHORT_OUTPUT apart).
+ */
+
+/* The reply on the bits that a film shows. 24 bytes. */
+struct usm_key_bits_reply {
+    size_t refused_at;
+    uint64_t bits;        /* the bits that the film shows; 0 where it shows none, and beside a refusal */
+    uint8_t number;
+    uint8_t unknown_type;
+};
+
+/*
+ * Which bits of a key change the streams of a film, read so. Under two keys usm_extract leaves the same two streams
+ * exactly when `key & bits` is one number (proved); so the bits that are not set can be cleared in a key, or typed
+ * wrong, and nothing changes (proved). A picture of data type 0 and 0x240 bytes or more shows all that count:
+ * 0x00FFFF0FFFFFFFFF. ADX sound of data type 0 shows, from 0x141 bytes on, bits 0 to 7; from 0x143 16 to 23 too; from
+ * 0x145 32 to 35; from 0x147 48 to 55; from 0x149 8 to 15; from 0x14F 24 to 31; from 0x159 40 to 47, which are all. No
+ * stream is unpacked, and no key is asked for.
+ */
+struct usm_key_bits_reply usm_key_bits(const uint8_t *container, size_t len, struct usm_reading reading);
+
 #ifdef __cplusplus
 }
 #endif

@@ -1,3 +1,2 @@
-pub mod LaneLaws
 pub mod Promises
 pub mod OneAnswer

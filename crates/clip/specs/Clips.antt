@@ -1,20 +1,15 @@
--- Which sound clips tell two keys apart. Ours: request 7 asks whether two keys can be compared on a clip.
-use Prim.Native.Nat.{ℕ, zero, suc, _%_}
-use mathlib.Core.Bool.{Bool, false, not, _&&_, _||_}
+-- Which sound clips tell two keys apart, and by which bits. Ours: request 7 asks whether two keys can be compared on a clip.
+use Prim.Native.Nat.{ℕ}
+use mathlib.Core.Bool.{Bool, not}
 use lib.Dec.{eqb}
-use Rattle.laws.specs.Lists.{at}
-use Rattle.key.specs.KeyTable.{tableT}
+use lib.Bits.{bitAnd}
+use Rattle.key.specs.LaneBits.{bitsIn}
 use Rattle.mask.specs.Positions.{lanesShown}
 
--- a lane tells two keys apart: it is even, and their T differ in it
-abbrev pub laneTells : ℕ → ℕ → ℕ → Bool
-laneTells key key′ lane = eqb (lane % 2) 0 && not (eqb (at (tableT key) lane) (at (tableT key′) lane))
+-- the bits of a key that a clip of n bytes shows: those of the lanes that it shows
+abbrev pub bitsShown : ℕ → ℕ
+bitsShown n = bitsIn (lanesShown n)
 
--- one of the lanes below a bound does
-unfoldable pub lanesTell : ℕ → ℕ → ℕ → Bool
-lanesTell zero key key′ = false
-lanesTell (suc lane) key key′ = lanesTell lane key key′ || laneTells key key′ lane
-
--- a clip of n bytes does: one of the lanes that it shows
+-- it tells two keys apart: they differ in one of these
 unfoldable pub clipTells : ℕ → ℕ → ℕ → Bool
-clipTells n = lanesTell (lanesShown n)
+clipTells n key key′ = not (eqb (bitAnd key (bitsShown n)) (bitAnd key′ (bitsShown n)))

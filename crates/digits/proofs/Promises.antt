@@ -8,7 +8,7 @@ use native.Mathlib.Decide.{decLe}
 use borrow.Author.Tests.{eq-eqb, ne-eqb, eqb-true, eqb-false, not-false}
 use lib.Dec.{eqb}
 use Rattle.key.specs.CountingBits.{AgreeWhereItCounts, countingBits}
-use Rattle.key.proofs.Promises.{one-number}
+use Rattle.key.proofs.KeyBits.{one-number}
 use Rattle.digits.specs.declared.Verdict.{Verdict}
 use Rattle.digits.specs.declared.Verdict.the-variants.{SameKey, SameStreams, StreamsCanDiffer}
 use Rattle.digits.specs.KeyDigits.{digitAt, digitCounts, digitsDiffer}

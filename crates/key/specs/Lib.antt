@@ -1,3 +1,4 @@
 pub mod KeyTable
 pub mod CountingBits
+pub mod LaneBits
 pub mod Promises

@@ -1,4 +1,4 @@
--- Having one copy is an equivalence: it says that T agrees in the lanes that the film shows. So two tenants have one lowest tenant of their group exactly
+-- Having one copy is an equivalence: it says that the keys agree in the bits that the film shows. So two tenants have one lowest tenant of their group exactly
 -- when they have one copy. Assumes nothing.
 use Prim.Native.Nat.{ℕ, _≤_, _<_, min}
 use mathlib.Core.Path.{_≡_, refl, sym, ap, _∙_}
@@ -9,9 +9,8 @@ use native.Mathlib.Omega.{arith}
 use lib.Dec.{eqb}
 use borrow.Author.Tests.{eq-eqb, eqb-true, not-true}
 use Rattle.laws.proofs.Side.{side}
-use Rattle.mask.specs.Positions.{lanesShown}
 use Rattle.clip.specs.Clips.{clipTells}
-use Rattle.clip.proofs.LaneLaws.{agree, untold}
+use Rattle.clip.proofs.Promises.{NotToldApartExactlyWhenBitsAgree}
 use Rattle.shares.specs.Tenants.{numberIn, keyIn, sharing, lowest}
 use Rattle.shares.specs.Shares.{groupOf}
 use Rattle.shares.proofs.CountLaws.{same-lowest}
@@ -24,17 +23,15 @@ module _ (bytes : ℕ) where
   OneCopy key key′ = clipTells bytes key key′ ≡ false
 
   pub copy-own : (key : ℕ) → OneCopy key key
-  unfolding clipTells
-  copy-own key = untold key key (lanesShown bytes) (λ lane l even. refl)
+  copy-own key = NotToldApartExactlyWhenBitsAgree bytes key key .1 refl
 
   pub copy-back : (key key′ : ℕ) → OneCopy key key′ → OneCopy key′ key
-  unfolding clipTells
-  copy-back key key′ e = untold key′ key (lanesShown bytes) (λ lane l even. sym (agree key key′ (lanesShown bytes) e lane l even))
+  copy-back key key′ e = NotToldApartExactlyWhenBitsAgree bytes key′ key .1 (sym (NotToldApartExactlyWhenBitsAgree bytes key key′ .0 e))
 
   pub copy-on : (key key′ key″ : ℕ) → OneCopy key key′ → OneCopy key′ key″ → OneCopy key key″
-  unfolding clipTells
   copy-on key key′ key″ e f =
-      untold key key″ (lanesShown bytes) (λ lane l even. agree key key′ (lanesShown bytes) e lane l even ∙ agree key′ key″ (lanesShown bytes) f lane l even)
+      NotToldApartExactlyWhenBitsAgree bytes key key″ .1
+      (NotToldApartExactlyWhenBitsAgree bytes key key′ .0 e ∙ NotToldApartExactlyWhenBitsAgree bytes key′ key″ .0 f)
 
   same-told : (key key′ other : ℕ) → OneCopy key key′ → (s t : Bool) → clipTells bytes key other ≡ s → clipTells bytes key′ other ≡ t → s ≡ t
   same-told key key′ other e true true p q = refl

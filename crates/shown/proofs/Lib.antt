@@ -1,4 +1,5 @@
 pub mod ShownLaws
 pub mod PieceLaws
+mod KeyBitsLaws
 pub mod Promises
 pub mod OneAnswer

@@ -1,16 +1,18 @@
--- The promise of specs/Promises.antt, under its name. Outputs that were the same before hold the same streams exactly when they are the same after; streams are
+-- The promises of specs/Promises.antt, each under its name. Outputs that were the same before hold the same streams exactly when they are the same after; streams are
 -- equal exactly when T agrees in the lanes that the film shows, which is what a clip of that length asks. Assumes nothing.
 use Prim.Native.Nat.{ℕ, _+_, _≤_}
 use mathlib.Core.Path.{_≡_, refl, sym, ap, _∙_}
 use mathlib.Core.Bool.{false}
-use mathlib.Core.Logic.{_↔_}
+use mathlib.Core.Logic.{_↔_, Iff·trans, Iff·symm}
 use mathlib.Core.List.{List}
 use native.Mathlib.Omega.{arith}
 use lib.ListN.{length, drop}
 use lib.Seq.{sets, sets-eq}
+use lib.Bits.{bitAnd}
+use Rattle.key.proofs.Promises.{EvenLanesTellTheirBits, OtherBitsCanBeCleared}
 use Rattle.mask.specs.Positions.{lanesShown}
 use Rattle.clip.specs.Clips.{clipTells}
-use Rattle.clip.proofs.LaneLaws.{agree, untold}
+use Rattle.clip.proofs.Promises.{NotToldApartExactlyWhenBitsAgree}
 use Rattle.walk.specs.Walks.{walkFrom, videoSize, audioSize}
 use Rattle.unmasking.specs.declared.Key.the-variants.{Given}
 use Rattle.film.specs.Films.{Film, film, refused, filmOf, surveyOf}
@@ -20,6 +22,7 @@ use Rattle.extract.proofs.AnswerLaws.{its-film}
 use Rattle.extract.proofs.ResultLaws.{both-hold}
 use Rattle.extract.proofs.Promises.{NoKeyChangesTheAnswer}
 use Rattle.shown.specs.Shown.{shownOf}
+use Rattle.shown.specs.KeyBits.{shownBits}
 use Rattle.shown.specs.Promises as promised
 use Rattle.shown.proofs.PieceLaws.{split, Lanes, streams-decided}
 
@@ -29,8 +32,7 @@ same-front out s s′ l room e =
     split s s′ (drop (0 + length s) out) (drop (0 + length s′) out) l (sym (sets-eq s out 0 (omega arith)) ∙ e ∙ sets-eq s′ out 0 (omega arith)) .0
 
 clip-decides : (key key′ n : ℕ) → (clipTells n key key′ ≡ false) ↔ Lanes key key′ n
-unfolding clipTells
-clip-decides key key′ n = (agree key key′ (lanesShown n), untold key key′ (lanesShown n))
+clip-decides key key′ n = Iff·trans (NotToldApartExactlyWhenBitsAgree n key key′) (Iff·symm (EvenLanesTellTheirBits key key′ (lanesShown n)))
 
 pub SameStreamsExactlyWhenNotTold : promised.SameStreamsExactlyWhenNotTold
 SameStreamsExactlyWhenNotTold container reading key key′ video audio videoAfter audioAfter videoAfter′ audioAfter′ contents contents′ e e′ = by-film (filmOf container reading) refl
@@ -62,3 +64,14 @@ SameStreamsExactlyWhenNotTold container reading key key′ video audio videoAfte
         let q : extracted.Film contents ≡ extracted.Refused refusal = rw f at (e .0) in
         let z : _≡_ {A = ℕ} 0 1 = cc in
         absurd (omega arith)
+
+pub SameStreamsExactlyWhenBitsAgree : promised.SameStreamsExactlyWhenBitsAgree
+SameStreamsExactlyWhenBitsAgree container reading key key′ video audio videoAfter audioAfter videoAfter′ audioAfter′ contents contents′ e e′ =
+    Iff·trans (Iff·symm (NotToldApartExactlyWhenBitsAgree (shownOf (filmOf container reading)) key key′))
+    (SameStreamsExactlyWhenNotTold container reading key key′ video audio videoAfter audioAfter videoAfter′ audioAfter′ contents contents′ e e′)
+
+pub OtherBitsChangeNoStream : promised.OtherBitsChangeNoStream
+OtherBitsChangeNoStream container reading key video audio videoAfter audioAfter videoAfter′ audioAfter′ contents contents′ e e′ =
+    let bits = shownBits (filmOf container reading) in
+    SameStreamsExactlyWhenBitsAgree container reading key (bitAnd key bits) video audio videoAfter audioAfter videoAfter′ audioAfter′ contents contents′ e e′ .0
+    (OtherBitsCanBeCleared bits key)

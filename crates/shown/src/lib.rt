@@ -1,15 +1,36 @@
-// What a film shows of a key, found by one walk over its chunks. It is said by the length of a sound clip that shows as much.
+// What a film shows of a key, found by one walk over its chunks. It is said by the length of a sound clip that shows as much,
+// and by the bits of a key that such a clip shows.
 // Request 13. Ours: the Rust has nothing of the kind.
 ghost use mathlib.Core.Path.{_≡_};
 ghost use Prim.Native.Nat.{max};
 ghost use Rattle.walk.specs.Walks.{walkFrom};
 ghost use mathlib.Core.Bool.{cond};
 ghost use lib.Dec.{ltb};
+ghost use Rattle.film.specs.Films.{filmOf};
 ghost use Rattle.shown.specs.Shown.{shownAs, shownIn, shownBy};
+ghost use Rattle.shown.specs.KeyBits.{keyBitsIn, keyBitsReply};
 use chunk::Chunk;
 use chunk::ChunkStep;
 use chunk::Kind;
+use film::Surveyed;
 use reading::Applied;
+use reading::Reading;
+use refusal::Refusal;
+
+// What a film answers about keys: the bits of a key that it shows, or why it is refused.
+pub enum KeyBits {
+    Shown(u64),
+    Refused(Refusal),
+}
+
+// The answer as C reads it. What has no meaning in it is 0.
+#[repr(C)]
+pub struct KeyBitsReply {
+    pub refused_at: usize,
+    pub bits: u64,
+    pub number: u8,
+    pub unknown_type: u8,
+}
 
 // A shorter picture is not masked.
 const PICTURE: usize = 0x240;
@@ -89,6 +110,51 @@ pub fn shown_from(container: &[u8], place: usize, reading: Applied, adx: bool) -
             }
             ChunkStep::Refused(_) => {
                 return most;
+            }
+        }
+    }
+}
+
+// The bits of a key that a film shows. Two keys that agree in them have the same two streams of it, and no other two do.
+pub fn key_bits(container: &[u8], reading: Reading) -> KeyBits
+    ensures { λ r. ⌜ r ≡ keyBitsIn (filmOf (now (container .entry)) reading) ⌝ }
+{
+    match film::survey(container, reading) {
+        Surveyed::Film {
+            header,
+            reading: applied,
+            count: _,
+            video: _,
+            audio: _,
+        } => {
+            let codec = header.audio_codec;
+            let adx = unmasking::is_adx(codec);
+            let bytes = shown_from(container, header.start, applied, adx);
+            KeyBits::Shown(clip::bits_shown(bytes))
+        }
+        Surveyed::Refused(refusal) => KeyBits::Refused(refusal),
+    }
+}
+
+// An answer as C reads it.
+pub fn key_bits_reply(answer: KeyBits) -> KeyBitsReply
+    ensures { λ r. ⌜ r ≡ keyBitsReply answer ⌝ }
+{
+    match answer {
+        KeyBits::Shown(bits) => KeyBitsReply {
+            refused_at: 0,
+            bits,
+            number: 0,
+            unknown_type: 0,
+        },
+        KeyBits::Refused(refusal) => {
+            let cause = refusal.cause;
+            let beside = refusal::beside_of(cause);
+            KeyBitsReply {
+                refused_at: refusal.place,
+                bits: 0,
+                number: refusal::number_of(cause),
+                unknown_type: beside.unknown_type,
             }
         }
     }

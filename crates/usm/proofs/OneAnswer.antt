@@ -20,6 +20,7 @@ use Rattle.usm.proofs.moving.usm_to_old.Reads as usm-to-old
 use Rattle.usm.proofs.salvaging.usm_salvage.Reads as usm-salvage
 use Rattle.usm.proofs.tables.usm_csv.Reads as usm-csv
 use Rattle.usm.proofs.stating.usm_statement.Reads as usm-statement
+use Rattle.usm.proofs.keys.usm_key_bits.Reads as usm-key-bits
 
 pub usm-table-once : (κs : _) (args : _) (r r′ : _) (exit exit′ : _) → usm-table.Learnt κs args r exit → usm-table.Learnt κs args r′ exit′ → r ≡ r′
 usm-table-once κs args r r′ exit exit′ = no-second-answer
@@ -78,3 +79,6 @@ usm-seek-once κs args r r′ exit exit′ = no-second-answer
 
 pub usm-profile-once : (κs : _) (args : _) (r r′ : _) (exit exit′ : _) → usm-profile.Learnt κs args r exit → usm-profile.Learnt κs args r′ exit′ → r ≡ r′
 usm-profile-once κs args r r′ exit exit′ = no-second-answer
+
+pub usm-key-bits-once : (κs : _) (args : _) (r r′ : _) (exit exit′ : _) → usm-key-bits.Learnt κs args r exit → usm-key-bits.Learnt κs args r′ exit′ → r ≡ r′
+usm-key-bits-once κs args r r′ exit exit′ = no-second-answer

@@ -1,6 +1,7 @@
 // What another program links: tables and cells, whole films and their chunks. Each function returns its reply by value.
 // Declared for C in include/usm.h; `rt staticlib usm` builds the library.
 mod jumps;
+mod keys;
 pub mod moving;
 mod profiles;
 mod salvaging;

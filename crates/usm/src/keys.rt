@@ -1,0 +1,16 @@
+// The bits of a key that a film shows, for C.
+ghost use mathlib.Core.Path.{_≡_};
+ghost use Rattle.reading.specs.Choices.{readingBy};
+ghost use Rattle.film.specs.Films.{filmOf};
+ghost use Rattle.shown.specs.KeyBits.{keyBitsIn, keyBitsReply};
+use reading::ReadingBytes;
+use shown::KeyBitsReply;
+
+// The bits of a key that a film shows: its two streams are the same under two keys exactly when these agree in them.
+#[no_mangle]
+pub extern "C" fn usm_key_bits(container: &[u8], reading: ReadingBytes) -> KeyBitsReply
+    ensures { λ r. ⌜ r ≡ keyBitsReply (keyBitsIn (filmOf (now (container .entry)) (readingBy reading))) ⌝ }
+{
+    let asked = reading::reading_by(reading);
+    shown::key_bits_reply(shown::key_bits(container, asked))
+}
