@@ -11,10 +11,6 @@ use Rattle.word.specs.Numbers.{be16, be32}
 use Rattle.part.specs.Parts.{partAt}
 use Rattle.signature.specs.Signatures.{sameBytes, standsAt}
 
--- what accepts x as `ok` of some value accepts y as the same
-abbrev pub Kept : {A B : Type 0} → (B → A) → A → A → Type 0
-Kept {A} {B} ok x y = (b : B) → x ≡ ok b → y ≡ ok b
-
 module _ (s more : List ℕ) where
   pub longer : length (s ++ more) ≡ length s + length more
   longer = length-append s more

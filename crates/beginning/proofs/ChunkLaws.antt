@@ -42,7 +42,7 @@ module _ (s more : List ℕ) (c : ℕ) where
     size = opening .block - (opening .header + opening .footer)
 
     -- a payload that is held with more behind s: not too small, present, and of this chunk
-    held : (offset : ℕ) → heldAt (s ++ more) c opening offset ≡ Found chunk
+    held : (offset : ℕ) → heldAt (length (s ++ more)) c opening offset ≡ Found chunk
         → (ltb (opening .block) (opening .header + opening .footer) ≡ false) × (chunkOf c opening offset size ≡ chunk)
     unfolding heldAt
     held offset e =
@@ -55,13 +55,13 @@ module _ (s more : List ℕ) (c : ℕ) where
     unfolding chunkOf
     ends-there offset n e = ap (λ (made : Chunk). made .payload + made .len) e
 
-    held-kept : (offset : ℕ) → heldAt (s ++ more) c opening offset ≡ Found chunk → chunk .payload + chunk .len ≤ length s → heldAt s c opening offset ≡ Found chunk
+    held-kept : (offset : ℕ) → heldAt (length (s ++ more)) c opening offset ≡ Found chunk → chunk .payload + chunk .len ≤ length s → heldAt (length s) c opening offset ≡ Found chunk
     unfolding heldAt
     held-kept offset e h =
         let a = held offset e in
         rw (a .0, le-ltb (length s) (c + offset + size) (omega (arith, ends-there offset size (a .1)))) (ap Found (a .1))
 
-    held-cut : (offset : ℕ) → heldAt (s ++ more) c opening offset ≡ Found chunk → length s < chunk .payload + chunk .len → heldAt s c opening offset ≡ refusedAt c RanOut
+    held-cut : (offset : ℕ) → heldAt (length (s ++ more)) c opening offset ≡ Found chunk → length s < chunk .payload + chunk .len → heldAt (length s) c opening offset ≡ refusedAt c RanOut
     unfolding heldAt
     held-cut offset e h =
         let a = held offset e in
@@ -69,16 +69,16 @@ module _ (s more : List ℕ) (c : ℕ) where
 
     -- t: it is taken
     module _ (mode : PayloadMode) where
-      kept-by : (t : Bool) → cond t (takenAt (s ++ more) mode c opening) (Found (chunkOf c opening 0x20 0)) ≡ Found chunk → chunk .payload + chunk .len ≤ length s
-          → cond t (takenAt s mode c opening) (Found (chunkOf c opening 0x20 0)) ≡ Found chunk
+      kept-by : (t : Bool) → cond t (takenAt (length (s ++ more)) mode c opening) (Found (chunkOf c opening 0x20 0)) ≡ Found chunk → chunk .payload + chunk .len ≤ length s
+          → cond t (takenAt (length s) mode c opening) (Found (chunkOf c opening 0x20 0)) ≡ Found chunk
       unfolding takenAt
       kept-by true e h =
           let a = not-refused (isShort mode opening) c ShortHeader chunk _ e in
           rw (a .0) (held-kept (offsetOf mode opening) (a .1) h)
       kept-by false e h = e
 
-      cut-by : c + 45 ≤ length s → (t : Bool) → cond t (takenAt (s ++ more) mode c opening) (Found (chunkOf c opening 0x20 0)) ≡ Found chunk → length s < chunk .payload + chunk .len
-          → cond t (takenAt s mode c opening) (Found (chunkOf c opening 0x20 0)) ≡ refusedAt c RanOut
+      cut-by : c + 45 ≤ length s → (t : Bool) → cond t (takenAt (length (s ++ more)) mode c opening) (Found (chunkOf c opening 0x20 0)) ≡ Found chunk → length s < chunk .payload + chunk .len
+          → cond t (takenAt (length s) mode c opening) (Found (chunkOf c opening 0x20 0)) ≡ refusedAt c RanOut
       unfolding takenAt
       cut-by whole true e h =
           let a = not-refused (isShort mode opening) c ShortHeader chunk _ e in
@@ -90,10 +90,10 @@ module _ (s more : List ℕ) (c : ℕ) where
   -- ---- the chunk
 
   module _ (chunk : Chunk) (reading : Applied) (e : chunkAt (s ++ more) reading c ≡ Found chunk) where
-    by-opening : c + 45 ≤ length s → openedAt (s ++ more) reading c (openingAt s c) ≡ Found chunk
+    by-opening : c + 45 ≤ length s → openedAt (length (s ++ more)) reading c (openingAt s c) ≡ Found chunk
     by-opening h =
         let n = longer s more in
-        ap (openedAt (s ++ more) reading c) (sym (opening-kept h)) ∙ opened (s ++ more) reading c (omega arith) ∙ e
+        ap (openedAt (length (s ++ more)) reading c) (sym (opening-kept h)) ∙ opened (s ++ more) reading c (omega arith) ∙ e
 
     starts : chunk .start ≡ c
     starts = found (s ++ more) reading c chunk e .start
@@ -126,14 +126,14 @@ module _ (container : List ℕ) (reading : Applied) (c : ℕ) where
   tested true why next h = refl
   tested false why next h = h
 
-  taken-or-not : (opening : Opening) (t : Bool) → AtPlace c (cond t (takenAt container (reading .payloads) c opening) (Found (chunkOf c opening 0x20 0)))
+  taken-or-not : (opening : Opening) (t : Bool) → AtPlace c (cond t (takenAt (length container) (reading .payloads) c opening) (Found (chunkOf c opening 0x20 0)))
   unfolding takenAt heldAt
   taken-or-not opening true =
       let offset = offsetOf (reading .payloads) opening in
       let spare = opening .header + opening .footer in
       let size = opening .block - spare in
       let chunk = chunkOf c opening offset size in
-      tested (isShort (reading .payloads) opening) ShortHeader (heldAt container c opening offset)
+      tested (isShort (reading .payloads) opening) ShortHeader (heldAt (length container) c opening offset)
       (tested (ltb (opening .block) spare) TooSmall (cond (ltb (length container) (c + offset + size)) (refusedAt c RanOut) (Found chunk))
       (tested (ltb (length container) (c + offset + size)) RanOut (Found chunk) tt))
   taken-or-not opening false = tt
@@ -146,7 +146,7 @@ module _ (container : List ℕ) (reading : Applied) (c : ℕ) where
   unfolding chunkAt openedAt
   step-placed =
       let left = length container - c in
-      let next = openedAt container reading c (openingAt container c) in
+      let next = openedAt (length container) reading c (openingAt container c) in
       over-or (ltb left 4) (cond (ltb left 45) (refusedAt c RanOut) next)
       (tested (ltb left 45) RanOut next (taken-or-not (openingAt container c) (takes reading (openingAt container c))))
 

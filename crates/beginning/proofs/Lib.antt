@@ -1,3 +1,4 @@
+pub mod Settled
 pub mod ByteLaws
 pub mod TableLaws
 pub mod BlockLaws

@@ -6,19 +6,28 @@ use native.Mathlib.Omega.{arith}
 use lib.ListN.{length, take, drop, take-append-drop}
 use lib.Seq.{length-take-le}
 use Rattle.reading.specs.declared.Applied.{Applied}
+use Rattle.reading.specs.declared.Reading.{Reading}
 use Rattle.header.specs.Headers.{headerOf}
 use Rattle.chunk.specs.declared.Chunk.{Chunk}
 use Rattle.chunk.specs.declared.ChunkStep.the-variants.{Found}
 use Rattle.chunk.specs.Chunks.{chunkAt}
 use Rattle.beginning.specs.Promises as promised
-use Rattle.beginning.proofs.HeaderLaws.{header-kept}
+use Rattle.beginning.proofs.Settled.{Settled, headerOpen, none}
+use Rattle.beginning.proofs.HeaderLaws.{header-settled}
 use Rattle.beginning.proofs.ChunkLaws.{chunk-kept, chunk-cut}
 
-pub HeaderOfABeginning : promised.HeaderOfABeginning
-HeaderOfABeginning container n how header few e =
+-- the same answer, unless the beginning's bytes run out
+same-answer : (container : List ℕ) (n : ℕ) (how : Reading) → length container ≤ 0x40000000 → Settled (headerOpen (take n container) (how .tables)) (headerOf (take n container) how) (headerOf container how)
+same-answer container n how few unless =
     let one = take-append-drop n container in
     let long : length (take n container ++ drop n container) ≤ 0x40000000 = omega (arith, ap length one) in
-    ap (λ (bytes : List ℕ). headerOf bytes how) (sym one) ∙ header-kept (take n container) (drop n container) how long header e
+    ap (λ (bytes : List ℕ). headerOf bytes how) (sym one) ∙ header-settled (take n container) (drop n container) how long unless
+
+pub HeaderOfABeginning : promised.HeaderOfABeginning
+HeaderOfABeginning container n how header few e = same-answer container n how few (rw e none) ∙ e
+
+pub RefusalOfABeginning : promised.RefusalOfABeginning
+RefusalOfABeginning container n how refusal few other e = same-answer container n how few (rw e other) ∙ e
 
 module _ (container : List ℕ) (n : ℕ) (reading : Applied) (c : ℕ) (chunk : Chunk) (within : n ≤ length container) (e : chunkAt container reading c ≡ Found chunk) where
   cut-there : length (take n container) ≡ n

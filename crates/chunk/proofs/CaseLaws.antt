@@ -15,7 +15,7 @@ use Rattle.chunk.specs.declared.Kind.the-variants.{Video, Audio, Other, 
 use Rattle.chunk.specs.declared.Opening.{Opening}
 use Rattle.chunk.specs.declared.ChunkStep.the-variants.{Over, Found}
 use Rattle.chunk.specs.Openings.{kindAt, openingAt}
-use Rattle.chunk.specs.Chunks.{isTaken, offsetOf, isShort, chunkOf, refusedAt, heldAt, takenAt, openedAt, chunkAt}
+use Rattle.chunk.specs.Chunks.{isTaken, offsetOf, isShort, chunkOf, refusedAt, endedAt, heldAt, takenAt, openedAt, chunkAt}
 
 module _ (container : List ℕ) (c : ℕ) where
   pub marked : standsAt contentsEnd container (c + 0x20) ≡ true → End ≡ kindAt container c
@@ -38,8 +38,8 @@ module _ (container : List ℕ) (c : ℕ) where
       other f = rw (unmarked, ← read, ne-eqb letters SFV no-video, ne-eqb letters SFA f)
 
 -- n is the length that the sizes say
-module _ (container : List ℕ) (c : ℕ) (opening : Opening) (offset : ℕ) where
-  pub too-small : opening .block < opening .header + opening .footer → refusedAt c TooSmall ≡ heldAt container c opening offset
+module _ (total : ℕ) (c : ℕ) (opening : Opening) (offset : ℕ) where
+  pub too-small : opening .block < opening .header + opening .footer → refusedAt c TooSmall ≡ heldAt total c opening offset
   unfolding heldAt
   too-small h = rw (lt-ltb _ _ h)
 
@@ -47,32 +47,33 @@ module _ (container : List ℕ) (c : ℕ) (opening : Opening) (offset : ℕ) whe
     abbrev n : ℕ
     n = opening .block - (opening .header + opening .footer)
 
-    pub ran-out : length container < c + offset + n → refusedAt c RanOut ≡ heldAt container c opening offset
+    pub ran-out : total < c + offset + n → refusedAt c RanOut ≡ heldAt total c opening offset
     unfolding heldAt
-    ran-out h = rw (le-ltb _ _ large, lt-ltb (length container) (c + offset + n) h)
+    ran-out h = rw (le-ltb _ _ large, lt-ltb total (c + offset + n) h)
 
-    pub present : c + offset + n ≤ length container → Found (chunkOf c opening offset n) ≡ heldAt container c opening offset
+    pub present : c + offset + n ≤ total → Found (chunkOf c opening offset n) ≡ heldAt total c opening offset
     unfolding heldAt
-    present h = rw (le-ltb _ _ large, le-ltb (length container) (c + offset + n) h)
+    present h = rw (le-ltb _ _ large, le-ltb total (c + offset + n) h)
 
-module _ (container : List ℕ) (mode : PayloadMode) (c : ℕ) (opening : Opening) where
-  pub short : isShort mode opening ≡ true → refusedAt c ShortHeader ≡ takenAt container mode c opening
+module _ (total : ℕ) (mode : PayloadMode) (c : ℕ) (opening : Opening) where
+  pub short : isShort mode opening ≡ true → refusedAt c ShortHeader ≡ takenAt total mode c opening
   unfolding takenAt
   short e = rw e
 
-  pub held : isShort mode opening ≡ false → (offset : ℕ) → offset ≡ offsetOf mode opening → heldAt container c opening offset ≡ takenAt container mode c opening
+  pub held : isShort mode opening ≡ false → (offset : ℕ) → offset ≡ offsetOf mode opening → heldAt total c opening offset ≡ takenAt total mode c opening
   unfolding takenAt
   held e offset q = rw (e, q)
 
-module _ (container : List ℕ) (reading : Applied) (c : ℕ) where
-  pub taken : (opening : Opening) → isTaken reading (opening .kind) (opening .channel) ≡ true → takenAt container (reading .payloads) c opening ≡ openedAt container reading c opening
+module _ (total : ℕ) (reading : Applied) (c : ℕ) where
+  pub taken : (opening : Opening) → isTaken reading (opening .kind) (opening .channel) ≡ true → takenAt total (reading .payloads) c opening ≡ openedAt total reading c opening
   unfolding openedAt
   taken opening e = rw e
 
-  pub skipped : (opening : Opening) → isTaken reading (opening .kind) (opening .channel) ≡ false → Found (chunkOf c opening 0x20 0) ≡ openedAt container reading c opening
+  pub skipped : (opening : Opening) → isTaken reading (opening .kind) (opening .channel) ≡ false → Found (chunkOf c opening 0x20 0) ≡ openedAt total reading c opening
   unfolding openedAt
   skipped opening e = rw e
 
+module _ (container : List ℕ) (reading : Applied) (c : ℕ) where
   pub over : length container - c < 4 → Over ≡ chunkAt container reading c
   unfolding chunkAt
   over h = rw (lt-ltb _ _ h)
@@ -81,6 +82,10 @@ module _ (container : List ℕ) (reading : Applied) (c : ℕ) where
   unfolding chunkAt
   cut g h = rw (le-ltb _ _ g, lt-ltb _ _ h)
 
-  pub opened : 45 ≤ length container - c → openedAt container reading c (openingAt container c) ≡ chunkAt container reading c
+  pub ended : length container - c < 45 → endedAt (length container - c) c ≡ chunkAt container reading c
+  unfolding chunkAt
+  ended h = rw (lt-ltb _ _ h)
+
+  pub opened : 45 ≤ length container - c → openedAt (length container) reading c (openingAt container c) ≡ chunkAt container reading c
   unfolding chunkAt
   opened h = let g : 4 ≤ length container - c = omega arith in rw (le-ltb _ _ g, le-ltb _ _ h)

@@ -53,7 +53,7 @@ module _ (container : List ℕ) (c : ℕ) (opening : Opening) (chunk : Chunk) wh
   unfolding chunkOf
   of-opening offset n e = record { kind = ap (λ (k : Chunk). k .kind) e; channel = ap (λ (k : Chunk). k .channel) e; bare = ap skipped e }
 
-  of-taken : (mode : PayloadMode) → takenAt container mode c opening ≡ Found chunk → Made
+  of-taken : (mode : PayloadMode) → takenAt (length container) mode c opening ≡ Found chunk → Made
   unfolding takenAt heldAt
   of-taken mode e =
       let offset = offsetOf mode opening in
@@ -72,8 +72,8 @@ module _ (container : List ℕ) (c : ℕ) (opening : Opening) (chunk : Chunk) wh
     stays made kind k e = ap Found (sym (as-it-is chosen chunk (rw (made .kind ∙ k) e)))
 
     -- audio, by whether it is taken with all, and is of the channel
-    by-channel : (mode : PayloadMode) → opening .kind ≡ Audio → (s t : Bool) → eqb (opening .channel) chosen ≡ t → cond s (takenAt container mode c opening) (Found (chunkOf c opening 0x20 0)) ≡ Found chunk
-        → cond (s && t) (takenAt container mode c opening) (Found (chunkOf c opening 0x20 0)) ≡ Found (only chosen chunk)
+    by-channel : (mode : PayloadMode) → opening .kind ≡ Audio → (s t : Bool) → eqb (opening .channel) chosen ≡ t → cond s (takenAt (length container) mode c opening) (Found (chunkOf c opening 0x20 0)) ≡ Found chunk
+        → cond (s && t) (takenAt (length container) mode c opening) (Found (chunkOf c opening 0x20 0)) ≡ Found (only chosen chunk)
     by-channel mode k true true q e = let m = of-taken mode e in e ∙ ap Found (sym (as-it-is chosen chunk (rw (m .kind ∙ k, m .channel, q))))
     by-channel mode k true false q e = let m = of-taken mode e in ap Found (sym (without-payload chosen chunk (rw (m .kind ∙ k, m .channel, q)) ∙ m .bare))
     by-channel mode k false true q e = let m = of-skipped e in e ∙ ap Found (sym (as-it-is chosen chunk (rw (m .kind ∙ k, m .channel, q))))
@@ -81,8 +81,8 @@ module _ (container : List ℕ) (c : ℕ) (opening : Opening) (chunk : Chunk) wh
 
     module _ (all one : Applied) (narrow : OneOf chosen all one) (mode : PayloadMode) where
       by-kind : (kind : Kind) → opening .kind ≡ kind
-          → cond (isTaken all kind (opening .channel)) (takenAt container mode c opening) (Found (chunkOf c opening 0x20 0)) ≡ Found chunk
-          → cond (isTaken one kind (opening .channel)) (takenAt container mode c opening) (Found (chunkOf c opening 0x20 0)) ≡ Found (only chosen chunk)
+          → cond (isTaken all kind (opening .channel)) (takenAt (length container) mode c opening) (Found (chunkOf c opening 0x20 0)) ≡ Found chunk
+          → cond (isTaken one kind (opening .channel)) (takenAt (length container) mode c opening) (Found (chunkOf c opening 0x20 0)) ≡ Found (only chosen chunk)
       by-kind Video k e = e ∙ stays (of-taken mode e) Video k refl
       by-kind Audio k e = rw (narrow .takes (opening .channel)) (by-channel mode k (takesChannel (all .audio) (opening .channel)) (eqb (opening .channel) chosen) refl e)
       by-kind Other k e = e ∙ stays (of-skipped e) Other k refl
@@ -96,5 +96,5 @@ module _ (chosen : ℕ) (container : List ℕ) (all one : Applied) (narrow : One
       let a = not-over (ltb (length container - c) 4) chunk _ e in
       let b = not-refused (ltb (length container - c) 45) c RanOut chunk _ (a .1) in
       rw (a .0, b .0)
-      (ap (λ (mode : PayloadMode). cond (isTaken one (opening .kind) (opening .channel)) (takenAt container mode c opening) (Found (chunkOf c opening 0x20 0))) (narrow .mode)
+      (ap (λ (mode : PayloadMode). cond (isTaken one (opening .kind) (opening .channel)) (takenAt (length container) mode c opening) (Found (chunkOf c opening 0x20 0))) (narrow .mode)
       ∙ by-kind container c opening chunk chosen all one narrow (all .payloads) (opening .kind) refl (b .1))

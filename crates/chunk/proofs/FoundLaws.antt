@@ -60,7 +60,7 @@ module _ (container : List ℕ) (c : ℕ) (chunk : Chunk) (enough : 45 ≤ lengt
       let f : chunkOf c opening offset n ≡ chunk = cc in
       rw (← f) (record { whole = enough; start = refl; kind = refl; channel = refl; typed = omega arith; behind = omega arith; near = omega arith; inside = h; past = omega arith })
 
-  of-held : (offset : ℕ) → 8 ≤ offset → offset ≤ 0x20 + opening .header → heldAt container c opening offset ≡ Found chunk → Within container c chunk
+  of-held : (offset : ℕ) → 8 ≤ offset → offset ≤ 0x20 + opening .header → heldAt (length container) c opening offset ≡ Found chunk → Within container c chunk
   unfolding heldAt
   of-held offset least most e =
       let spare = opening .header + opening .footer in
@@ -69,13 +69,13 @@ module _ (container : List ℕ) (c : ℕ) (chunk : Chunk) (enough : 45 ≤ lengt
       let b = not-refused (ltb (length container) (c + offset + n)) c RanOut chunk _ (a .1) in
       of-length offset n least most (ltb-false (length container) (c + offset + n) (b .0)) (omega arith) (b .1)
 
-  of-taken : (mode : PayloadMode) → takenAt container mode c opening ≡ Found chunk → Within container c chunk
+  of-taken : (mode : PayloadMode) → takenAt (length container) mode c opening ≡ Found chunk → Within container c chunk
   unfolding takenAt
   of-taken mode e =
       let bounds = offset-bounds mode opening in
       of-held (offsetOf mode opening) (bounds .0) (bounds .1) (not-refused (isShort mode opening) c ShortHeader chunk _ e .1)
 
-  of-either : (mode : PayloadMode) (t : Bool) → cond t (takenAt container mode c opening) (Found (chunkOf c opening 0x20 0)) ≡ Found chunk → Within container c chunk
+  of-either : (mode : PayloadMode) (t : Bool) → cond t (takenAt (length container) mode c opening) (Found (chunkOf c opening 0x20 0)) ≡ Found chunk → Within container c chunk
   of-either mode true e = of-taken mode e
   of-either mode false e = of-length 0x20 0 (omega arith) (omega arith) (omega arith) (omega arith) e
 
@@ -96,7 +96,7 @@ never-over true false false true first second third chunk other e = cc
 never-over true false false false first second third chunk other e = cc
 never-over false low small short first second third chunk other e = cc
 
-opened-is-not-over : (container : List ℕ) (reading : Applied) (c : ℕ) (opening : Opening) → openedAt container reading c opening ≡ Over → _≡_ {A = ℕ} 0 1
+opened-is-not-over : (container : List ℕ) (reading : Applied) (c : ℕ) (opening : Opening) → openedAt (length container) reading c opening ≡ Over → _≡_ {A = ℕ} 0 1
 unfolding openedAt takenAt heldAt
 opened-is-not-over container reading c opening e =
     let spare = opening .header + opening .footer in
@@ -110,7 +110,7 @@ pub over-in-every : (container : List ℕ) (reading other : Applied) (c : ℕ) �
 unfolding chunkAt
 over-in-every container reading other c e = by-left (ltb (length container - c) 4) (ltb (length container - c) 45) refl e
   where
-    by-left : (s t : Bool) → ltb (length container - c) 4 ≡ s → cond s Over (cond t (refusedAt c RanOut) (openedAt container reading c (openingAt container c))) ≡ Over
+    by-left : (s t : Bool) → ltb (length container - c) 4 ≡ s → cond s Over (cond t (refusedAt c RanOut) (openedAt (length container) reading c (openingAt container c))) ≡ Over
         → chunkAt container other c ≡ Over
     by-left true t q e = rw q
     by-left false true q e = let z : _≡_ {A = ℕ} 0 1 = cc in absurd (omega arith)

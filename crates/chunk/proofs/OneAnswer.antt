@@ -10,6 +10,7 @@ use Rattle.chunk.specs.declared.ChunkStep.the-variants.{Over, Found, Ref
 use Rattle.chunk.specs.Chunks.{chunkAt, PayloadIn}
 use Rattle.chunk.proofs.kind_number.Reads as kind-number
 use Rattle.chunk.proofs.chunk_at.Reads as chunk-at
+use Rattle.chunk.proofs.step_in.Reads as step-in
 use Rattle.chunk.proofs.payload_of.Reads as payload-of
 use Rattle.chunk.proofs.read_payload.Reads as read-payload
 
@@ -18,6 +19,9 @@ kind-number-once κs args r r′ exit exit′ = no-second-answer
 
 pub chunk-at-once : (κs : _) (args : _) (r r′ : _) (exit exit′ : _) → chunk-at.Learnt κs args r exit → chunk-at.Learnt κs args r′ exit′ → r ≡ r′
 chunk-at-once κs args r r′ exit exit′ = no-second-answer
+
+pub step-in-once : (κs : _) (args : _) (r r′ : _) (exit exit′ : _) → step-in.Learnt κs args r exit → step-in.Learnt κs args r′ exit′ → r ≡ r′
+step-in-once κs args r r′ exit exit′ = no-second-answer
 
 -- a step has one payload
 one-payload : (container : RefT (List ℕ)) (step : ChunkStep) (r r′ : RefT (List ℕ)) → PayloadIn container step r → PayloadIn container step r′ → SamePart r r′

@@ -1,11 +1,13 @@
--- The promises of specs/Promises.antt, each under its name: what FoundLaws knows of a chunk that was found; and both modes at header size 0x18. Assumes nothing.
-use Prim.Native.Nat.{ℕ, _+_, _≤_}
+-- The promises of specs/Promises.antt, each under its name: what FoundLaws knows of a chunk that was found; both modes at header size 0x18; and the steps by windows. Assumes nothing.
+use Prim.Native.Nat.{ℕ, _+_, _-_, _≤_, _<_}
 use mathlib.Core.Path.{_≡_, refl, sym, ap, _∙_}
 use mathlib.Core.List.{List}
 use mathlib.Core.Bool.{Bool, true, false}
+use mathlib.Core.Logic.{inl, inr, ⊎-elim}
 use native.Mathlib.Omega.{arith}
-use lib.ListN.{length, length-take, length-drop}
+use lib.ListN.{length, take, drop, length-take, length-drop}
 use borrow.Author.Tests.{le-leb}
+use Rattle.laws.proofs.Side.{side}
 use Rattle.reading.specs.declared.AudioChoice.{AudioChoice}
 use Rattle.reading.specs.declared.PayloadMode.{PayloadMode}
 use Rattle.reading.specs.declared.PayloadMode.the-variants.{Original, AfterHeader}
@@ -18,6 +20,7 @@ use Rattle.chunk.specs.Openings.{openingAt}
 use Rattle.chunk.specs.Chunks.{isTaken, heldAt, takenAt, openedAt, chunkAt}
 use Rattle.chunk.specs.Promises as promised
 use Rattle.chunk.proofs.FoundLaws.{found}
+use Rattle.chunk.proofs.WindowLaws.{few-left, short, opening-there}
 
 pub PayloadsLieWithin : promised.PayloadsLieWithin
 PayloadsLieWithin container reading c chunk e =
@@ -31,7 +34,7 @@ NextLiesAfter container reading c chunk e = let w = found container reading c ch
 -- ---- both modes
 
 -- behind a header of 0x18 a payload starts at c + 0x20
-behind-0x18 : (container : List ℕ) (mode : PayloadMode) (c : ℕ) (opening : Opening) → opening .header ≡ 0x18 → takenAt container mode c opening ≡ heldAt container c opening 0x20
+behind-0x18 : (container : List ℕ) (mode : PayloadMode) (c : ℕ) (opening : Opening) → opening .header ≡ 0x18 → takenAt (length container) mode c opening ≡ heldAt (length container) c opening 0x20
 unfolding takenAt
 behind-0x18 container Original c opening h = refl
 behind-0x18 container AfterHeader c opening h = rw h
@@ -43,11 +46,11 @@ module _ (container : List ℕ) (reading other : Applied) (c : ℕ) (same : read
   both-take Other channel = refl
   both-take End channel = refl
 
-  same-opened : (opening : Opening) → (isTaken reading (opening .kind) (opening .channel) ≡ true → opening .header ≡ 0x18) → openedAt container reading c opening ≡ openedAt container other c opening
+  same-opened : (opening : Opening) → (isTaken reading (opening .kind) (opening .channel) ≡ true → opening .header ≡ 0x18) → openedAt (length container) reading c opening ≡ openedAt (length container) other c opening
   unfolding openedAt
   same-opened opening h = by-taken (isTaken reading (opening .kind) (opening .channel)) refl
     where
-      by-taken : (t : Bool) → isTaken reading (opening .kind) (opening .channel) ≡ t → openedAt container reading c opening ≡ openedAt container other c opening
+      by-taken : (t : Bool) → isTaken reading (opening .kind) (opening .channel) ≡ t → openedAt (length container) reading c opening ≡ openedAt (length container) other c opening
       by-taken true e =
           rw (e, sym (both-take (opening .kind) (opening .channel)) ∙ e)
           (behind-0x18 container (reading .payloads) c opening (h e) ∙ sym (behind-0x18 container (other .payloads) c opening (h e)))
@@ -56,3 +59,16 @@ module _ (container : List ℕ) (reading other : Applied) (c : ℕ) (same : read
 pub ModesAgree : promised.ModesAgree
 unfolding chunkAt
 ModesAgree container reading other c same h = rw (same-opened container reading other c same (openingAt container c) h)
+
+-- ---- piece by piece
+
+pub WindowsGiveTheStep : promised.WindowsGiveTheStep
+WindowsGiveTheStep container reading c k h = ⊎-elim (few-left container reading c k) (opening-there container reading c k h) (side (length container - c) 45)
+
+pub WindowsNeverMislead : promised.WindowsNeverMislead
+WindowsNeverMislead container reading c k =
+    ⊎-elim (λ (few : length container - c < 45). inr (few-left container reading c k few))
+    (λ (many : 45 ≤ length container - c).
+    ⊎-elim (λ (h : k < 45). inl (sym (short (take k (drop c container)) (length container) reading c many (simp (length-take, length-drop) (omega arith)))))
+    (λ (h : 45 ≤ k). inr (opening-there container reading c k h many)) (side k 45))
+    (side (length container - c) 45)

@@ -52,27 +52,36 @@ chunkOf c opening offset n = record { start = c; kind = opening .kind; channel =
 abbrev pub refusedAt : ℕ → Cause → ChunkStep
 refusedAt c why = Refused (record { cause = why; place = c })
 
+-- Of a container the rules ask no more than its opening at c, and its length: total
+
 -- "its length is block size - header - footer (9), present in full (1)."
-unfoldable pub heldAt : List ℕ → ℕ → Opening → ℕ → ChunkStep
-heldAt container c opening offset =
+unfoldable pub heldAt : ℕ → ℕ → Opening → ℕ → ChunkStep
+heldAt total c opening offset =
     cond (ltb (opening .block) (opening .header + opening .footer)) (refusedAt c TooSmall)
-    (cond (ltb (length container) (c + offset + (opening .block - (opening .header + opening .footer)))) (refusedAt c RanOut)
+    (cond (ltb total (c + offset + (opening .block - (opening .header + opening .footer)))) (refusedAt c RanOut)
     (Found (chunkOf c opening offset (opening .block - (opening .header + opening .footer)))))
 
 -- "17 header size below 0x18 in the new mode for a payload that is not skipped, placed before 9"
-unfoldable pub takenAt : List ℕ → PayloadMode → ℕ → Opening → ChunkStep
-takenAt container mode c opening = cond (isShort mode opening) (refusedAt c ShortHeader) (heldAt container c opening (offsetOf mode opening))
+unfoldable pub takenAt : ℕ → PayloadMode → ℕ → Opening → ChunkStep
+takenAt total mode c opening = cond (isShort mode opening) (refusedAt c ShortHeader) (heldAt total c opening (offsetOf mode opening))
 
 -- "others are skipped with no size check"; "payload length (0 if skipped)". A skipped payload is said to start at c + 0x20 in both modes: nothing asks its header size
-unfoldable pub openedAt : List ℕ → Applied → ℕ → Opening → ChunkStep
-openedAt container reading c opening = cond (isTaken reading (opening .kind) (opening .channel)) (takenAt container (reading .payloads) c opening) (Found (chunkOf c opening 0x20 0))
+unfoldable pub openedAt : ℕ → Applied → ℕ → Opening → ChunkStep
+openedAt total reading c opening = cond (isTaken reading (opening .kind) (opening .channel)) (takenAt total (reading .payloads) c opening) (Found (chunkOf c opening 0x20 0))
+
+-- where fewer bytes than an opening are left
+abbrev pub endedAt : ℕ → ℕ → ChunkStep
+endedAt left c = cond (ltb left 4) Over (refusedAt c RanOut)
 
 -- "At c, fewer than 4 bytes left: clean end. .. 4 to 44 left: 1."
+abbrev pub stepOf : ℕ → Applied → ℕ → Opening → ChunkStep
+stepOf total reading c opening =
+    cond (ltb (total - c) 4) Over
+    (cond (ltb (total - c) 45) (refusedAt c RanOut)
+    (openedAt total reading c opening))
+
 unfoldable pub chunkAt : List ℕ → Applied → ℕ → ChunkStep
-chunkAt container reading c =
-    cond (ltb (length container - c) 4) Over
-    (cond (ltb (length container - c) 45) (refusedAt c RanOut)
-    (openedAt container reading c (openingAt container c)))
+chunkAt container reading c = stepOf (length container) reading c (openingAt container c)
 
 -- a payload's bytes
 abbrev pub payloadOf : List ℕ → Chunk → List ℕ

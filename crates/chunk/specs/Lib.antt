@@ -1,4 +1,5 @@
 pub mod Chunks
 pub mod Openings
+pub mod Windows
 pub mod Channels
 pub mod Promises

@@ -3,12 +3,15 @@ use Prim.Native.Nat.{ℕ, _+_, _≤_}
 use mathlib.Core.Path.{_≡_}
 use mathlib.Core.List.{List}
 use mathlib.Core.Bool.{true}
-use lib.ListN.{length}
+use mathlib.Core.Logic.{_⊎_}
+use lib.ListN.{length, take, drop}
 use Rattle.reading.specs.declared.Applied.{Applied}
 use Rattle.chunk.specs.declared.Chunk.{Chunk}
 use Rattle.chunk.specs.declared.ChunkStep.the-variants.{Found}
+use Rattle.chunk.specs.declared.Stepped.the-variants.{More, Step}
 use Rattle.chunk.specs.Openings.{openingAt}
 use Rattle.chunk.specs.Chunks.{isTaken, chunkAt, payloadOf}
+use Rattle.chunk.specs.Windows.{stepIn}
 
 -- Its payload lies within the container, all of it.
 abbrev pub PayloadsLieWithin : Type 0
@@ -28,3 +31,14 @@ ModesAgree =
     (container : List ℕ) (reading other : Applied) (c : ℕ) → reading .audio ≡ other .audio
     → (isTaken reading (openingAt container c .kind) (openingAt container c .channel) ≡ true → openingAt container c .header ≡ 0x18)
     → chunkAt container reading c ≡ chunkAt container other c
+
+-- A container read piece by piece has the same steps: a window of 45 bytes or more, of those that stand at a place, gives the step of the container there.
+abbrev pub WindowsGiveTheStep : Type 0
+WindowsGiveTheStep =
+    (container : List ℕ) (reading : Applied) (c k : ℕ) → 45 ≤ k → stepIn (take k (drop c container)) (length container) reading c ≡ Step (chunkAt container reading c)
+
+-- A shorter one asks for more, or gives the step of the container too: never another.
+abbrev pub WindowsNeverMislead : Type 0
+WindowsNeverMislead =
+    (container : List ℕ) (reading : Applied) (c k : ℕ)
+    → (stepIn (take k (drop c container)) (length container) reading c ≡ More) ⊎ (stepIn (take k (drop c container)) (length container) reading c ≡ Step (chunkAt container reading c))

@@ -1,10 +1,11 @@
 // One chunk of a container, and its payload as a part of the container. Rules C.
 // From the Rust: `read_chunk_header`, `read_data_len`, and which chunks `extract_usm_chunks_to_memory` takes.
 ghost use mathlib.Core.Path.{_≡_};
-ghost use Prim.Native.Nat.{_+_, _≤_, _<_, _^_};
+ghost use Prim.Native.Nat.{_+_, _-_, _≤_, _<_, _^_};
 ghost use lib.ListN.{length};
 ghost use Rattle.chunk.specs.Openings.{kindAt, openingAt};
-ghost use Rattle.chunk.specs.Chunks.{kindNumber, isTaken, offsetOf, isShort, chunkOf, refusedAt, heldAt, takenAt, openedAt, chunkAt, PayloadOf, PayloadAt};
+ghost use Rattle.chunk.specs.Chunks.{kindNumber, isTaken, offsetOf, isShort, chunkOf, refusedAt, endedAt, heldAt, takenAt, openedAt, chunkAt, PayloadOf, PayloadAt};
+ghost use Rattle.chunk.specs.Windows.{stepIn};
 use reading::Applied;
 use reading::PayloadMode;
 use refusal::Cause;
@@ -45,6 +46,12 @@ pub enum ChunkStep {
     Over,
     Found(Chunk),
     Refused(Refusal),
+}
+
+// What a window says of a place: the step there, or that it is too short to say.
+pub enum Stepped {
+    More,
+    Step(ChunkStep),
 }
 
 // The bytes that every chunk has: as many as an end chunk needs.
@@ -175,10 +182,10 @@ fn refused(cause: Cause, place: usize) -> ChunkStep
     ChunkStep::Refused(Refusal { cause, place })
 }
 
-// The chunk at a place, whose payload stands so many bytes on: it has to be there in full.
-fn held_at(container: &[u8], place: usize, opening: Opening, offset: usize) -> ChunkStep
+// The chunk at a place of a container of `total` bytes, whose payload stands so many bytes on: it has to be there in full.
+fn held_at(total: usize, place: usize, opening: Opening, offset: usize) -> ChunkStep
     requires { ⌜ (place < 2 ^ 63) × (offset < 2 ^ 32) ⌝ }
-    ensures { λ r. ⌜ r ≡ heldAt (now (container .entry)) place opening offset ⌝ }
+    ensures { λ r. ⌜ r ≡ heldAt total place opening offset ⌝ }
 {
     let block = opening.block as usize;
     let spare = opening.header as usize + opening.footer as usize;
@@ -186,34 +193,55 @@ fn held_at(container: &[u8], place: usize, opening: Opening, offset: usize) -> C
         return refused(Cause::TooSmall, place);
     }
     let len = block - spare;
-    if container.len() < place + offset + len {
+    if total < place + offset + len {
         return refused(Cause::RanOut, place);
     }
     ChunkStep::Found(chunk_of(place, opening, offset, len))
 }
 
 // The chunk at a place, whose payload is taken.
-fn taken_at(container: &[u8], place: usize, mode: PayloadMode, opening: Opening) -> ChunkStep
+fn taken_at(total: usize, place: usize, mode: PayloadMode, opening: Opening) -> ChunkStep
     requires { ⌜ place < 2 ^ 63 ⌝ }
-    ensures { λ r. ⌜ r ≡ takenAt (now (container .entry)) mode place opening ⌝ }
+    ensures { λ r. ⌜ r ≡ takenAt total mode place opening ⌝ }
 {
     if is_short(mode, opening) {
         return refused(Cause::ShortHeader, place);
     }
-    held_at(container, place, opening, offset_of(mode, opening))
+    held_at(total, place, opening, offset_of(mode, opening))
 }
 
 // The chunk at a place, by its opening: a payload that is not taken is not looked at.
-fn opened_at(container: &[u8], place: usize, reading: Applied, opening: Opening) -> ChunkStep
+fn opened_at(total: usize, place: usize, reading: Applied, opening: Opening) -> ChunkStep
     requires { ⌜ place < 2 ^ 63 ⌝ }
-    ensures { λ r. ⌜ r ≡ openedAt (now (container .entry)) reading place opening ⌝ }
+    ensures { λ r. ⌜ r ≡ openedAt total reading place opening ⌝ }
 {
     let kind = opening.kind;
     if is_taken(reading, kind, opening.channel) {
         let mode = reading.payloads;
-        return taken_at(container, place, mode, opening);
+        return taken_at(total, place, mode, opening);
     }
     ChunkStep::Found(chunk_of(place, opening, signature::INSIDE, 0))
+}
+
+// That the chunks end at a place, or are cut there: so few bytes are left that no opening is.
+fn ended_at(left: usize, place: usize) -> ChunkStep
+    ensures { λ r. ⌜ r ≡ endedAt left place ⌝ }
+{
+    if left < signature::LETTERS {
+        return ChunkStep::Over;
+    }
+    refused(Cause::RanOut, place)
+}
+
+// How many of so many bytes stand from a place on.
+fn left_of(total: u32, place: usize) -> usize
+    ensures { λ r. ⌜ r ≡ total - place ⌝ }
+{
+    let all = total as usize;
+    if place < all {
+        return all - place;
+    }
+    0
 }
 
 // The chunk at a place, or that the chunks end there, or why it is refused. `reading` is how this film is read: where the
@@ -223,12 +251,29 @@ pub fn chunk_at(container: &[u8], place: usize, reading: Applied) -> ChunkStep
 {
     let left = word::left_from(container, place);
     if left < OPENING {
-        if left < signature::LETTERS {
-            return ChunkStep::Over;
-        }
-        return refused(Cause::RanOut, place);
+        return ended_at(left, place);
     }
-    opened_at(container, place, reading, opening_at(container, place))
+    opened_at(
+        container.len(),
+        place,
+        reading,
+        opening_at(container, place),
+    )
+}
+
+// The chunk at a place of a container of `total` bytes, by a window: the bytes that stand there, or the first of them. 45 are
+// enough. So a container is read piece by piece.
+pub fn step_in(window: &[u8], place: usize, total: u32, reading: Applied) -> Stepped
+    ensures { λ r. ⌜ r ≡ stepIn (now (window .entry)) total reading place ⌝ }
+{
+    let left = left_of(total, place);
+    if left < OPENING {
+        return Stepped::Step(ended_at(left, place));
+    }
+    if window.len() < OPENING {
+        return Stepped::More;
+    }
+    Stepped::Step(opened_at(total as usize, place, reading, opening_at(window, 0)))
 }
 
 // The payload of a chunk, a part of the container; its empty part at byte 0 where the container does not hold that much.

@@ -4,6 +4,7 @@ use Rattle.laws.proofs.OneAnswer.{no-second-answer}
 use Rattle.codec.proofs.codec_of.Reads as codec-of
 use Rattle.codec.proofs.video_kind.Reads as video-kind
 use Rattle.codec.proofs.audio_kind.Reads as audio-kind
+use Rattle.codec.proofs.codec_by.Reads as codec-by
 use Rattle.codec.proofs.presence_of.Reads as presence-of
 use Rattle.codec.proofs.value_of.Reads as value-of
 use Rattle.codec.proofs.video_number.Reads as video-number
@@ -17,6 +18,9 @@ video-kind-once κs args r r′ exit exit′ = no-second-answer
 
 pub audio-kind-once : (κs : _) (args : _) (r r′ : _) (exit exit′ : _) → audio-kind.Learnt κs args r exit → audio-kind.Learnt κs args r′ exit′ → r ≡ r′
 audio-kind-once κs args r r′ exit exit′ = no-second-answer
+
+pub codec-by-once : (κs : _) (args : _) (r r′ : _) (exit exit′ : _) → codec-by.Learnt κs args r exit → codec-by.Learnt κs args r′ exit′ → r ≡ r′
+codec-by-once κs args r r′ exit exit′ = no-second-answer
 
 pub presence-of-once : (κs : _) (args : _) (r r′ : _) (exit exit′ : _) → presence-of.Learnt κs args r exit → presence-of.Learnt κs args r′ exit′ → r ≡ r′
 presence-of-once κs args r r′ exit exit′ = no-second-answer

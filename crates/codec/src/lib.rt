@@ -4,7 +4,7 @@ ghost use mathlib.Core.Path.{_≡_};
 ghost use Rattle.cell.specs.Cells.{bitsOf};
 ghost use Rattle.codec.specs.Codecs.{codecOf};
 ghost use Rattle.codec.specs.Kinds.{videoKind, audioKind};
-ghost use Rattle.codec.specs.Numbers.{presenceOf, valueOf, videoNumber, audioNumber};
+ghost use Rattle.codec.specs.Numbers.{codecBy, presenceOf, valueOf, videoNumber, audioNumber};
 use cell::Cell;
 
 // A codec's number, or that there is none.
@@ -54,6 +54,16 @@ pub fn codec_of(cell: Cell) -> Codec
         Cell::Text { start: _, len: _ } => Codec::Absent,
         Cell::Data { start: _, len: _ } => Codec::Absent,
     }
+}
+
+// The codec by two numbers, as C gives it: with 0 for the first there is none.
+pub fn codec_by(given: u8, number: u32) -> Codec
+    ensures { λ r. ⌜ r ≡ codecBy given number ⌝ }
+{
+    if given == 0 {
+        return Codec::Absent;
+    }
+    Codec::Value(number)
 }
 
 // The kind of a video stream.

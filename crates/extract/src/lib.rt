@@ -147,7 +147,7 @@ fn refused(cause: Cause) -> Extracted
 }
 
 // What a film of a header and two sizes holds.
-fn contents_of(header: Header, video: usize, audio: usize) -> Contents
+pub fn contents_of(header: Header, video: usize, audio: usize) -> Contents
     ensures { λ r. ⌜ r ≡ contentsOf header video audio ⌝ }
 {
     let name = header.name;

@@ -175,7 +175,7 @@ as-written : (mode : PayloadMode) (kind : Kind) (n : ℕ) → (isShort mode (ope
 as-written Original kind n = (refl, refl)
 as-written AfterHeader kind n = (refl, refl)
 
-taken-is : (s : List ℕ) (mode : PayloadMode) (c n : ℕ) (kind : Kind) → c + blockSize n ≤ length s → takenAt s mode c (opened kind n) ≡ Found (chunkIn c (record { kind = kind; len = n; size = blockSize n }))
+taken-is : (s : List ℕ) (mode : PayloadMode) (c n : ℕ) (kind : Kind) → c + blockSize n ≤ length s → takenAt (length s) mode c (opened kind n) ≡ Found (chunkIn c (record { kind = kind; len = n; size = blockSize n }))
 unfolding takenAt heldAt chunkOf
 taken-is s mode c n kind h =
     let m : 0x18 + n + padding n - (0x18 + padding n) ≡ n = omega arith in
@@ -183,7 +183,7 @@ taken-is s mode c n kind h =
     rw (as-written mode kind n .0, as-written mode kind n .1, le-ltb (0x18 + n + padding n) (0x18 + padding n) (omega arith), m, le-ltb (length s) (c + 0x20 + n) (omega arith), next)
 
 opened-is : (stream : Stream) (s : List ℕ) (c n : ℕ) (applied : Applied) → Takes applied stream → c + blockSize n ≤ length s
-    → openedAt s applied c (opened (kindFor stream) n) ≡ Found (chunkIn c (record { kind = kindFor stream; len = n; size = blockSize n }))
+    → openedAt (length s) applied c (opened (kindFor stream) n) ≡ Found (chunkIn c (record { kind = kindFor stream; len = n; size = blockSize n }))
 unfolding openedAt
 opened-is Video s c n applied t h = taken-is s (applied .payloads) c n kind.Video h
 opened-is Audio s c n applied t h = rw t (taken-is s (applied .payloads) c n kind.Audio h)

@@ -1,1 +1,2 @@
 pub mod Unmasking
+pub mod Promises

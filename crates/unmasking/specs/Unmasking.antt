@@ -11,6 +11,8 @@ use Rattle.codec.specs.declared.Codec.the-variants.{Value, Absent}
 use Rattle.unmasking.specs.declared.Key.{Key}
 use Rattle.unmasking.specs.declared.Key.the-variants as key
 use Rattle.unmasking.specs.declared.Unmasking.{Unmasking}
+use Rattle.unmasking.specs.declared.Mask.{Mask}
+use Rattle.unmasking.specs.declared.Mask.the-variants.{Clear, VideoMask, AudioMask}
 
 -- the key by two numbers, ours for C: 0 for the first means that there is none
 abbrev pub keyBy : ℕ → ℕ → Key
@@ -35,3 +37,25 @@ clearVideo by data-type payload = cond (isMasked (by .video) data-type) (unmaske
 
 abbrev pub clearAudio : Unmasking → ℕ → List ℕ → List ℕ
 clearAudio by data-type payload = cond (isMasked (by .audio) data-type) (maskedAudio (by .keys) payload) payload
+
+-- ---- a payload by itself: which mask it has, and the payload made clear under a key
+
+abbrev pub videoMask : ℕ → Mask
+videoMask data-type = cond (isMasked true data-type) VideoMask Clear
+
+abbrev pub audioMask : Codec → ℕ → Mask
+audioMask codec data-type = cond (isMasked (isAdx codec) data-type) AudioMask Clear
+
+abbrev pub clearedBy : ℕ → Mask → List ℕ → List ℕ
+clearedBy number Clear payload = payload
+clearedBy number VideoMask payload = unmaskedVideo (keysOf number) payload
+clearedBy number AudioMask payload = maskedAudio (keysOf number) payload
+
+-- a mask by a number, ours for C: each number but 1 and 2 is none
+abbrev pub maskNumber : Mask → ℕ
+maskNumber Clear = 0
+maskNumber VideoMask = 1
+maskNumber AudioMask = 2
+
+abbrev pub maskBy : ℕ → Mask
+maskBy number = cond (eqb number 1) VideoMask (cond (eqb number 2) AudioMask Clear)

@@ -1,7 +1,7 @@
 // Which payloads of a film are masked, and such a payload made clear in place.
 // Rules C. From the Rust: the masks that `extract_usm_to_memory` chooses, and `read_usm_chunk_into`.
 ghost use mathlib.Core.Path.{_≡_};
-ghost use Rattle.unmasking.specs.Unmasking.{keyBy, isAdx, isMasked, unmaskingOf, clearVideo, clearAudio};
+ghost use Rattle.unmasking.specs.Unmasking.{keyBy, isAdx, isMasked, unmaskingOf, clearVideo, clearAudio, videoMask, audioMask, clearedBy, maskNumber, maskBy};
 use codec::Codec;
 use key::Keys;
 
@@ -16,6 +16,13 @@ pub struct Unmasking {
     pub video: bool,
     pub audio: bool,
     pub keys: Keys,
+}
+
+// The mask that a payload has: none, or that of a stream.
+pub enum Mask {
+    Clear,
+    VideoMask,
+    AudioMask,
 }
 
 // The codec of ADX audio, the only one that is masked.
@@ -90,4 +97,59 @@ pub fn unmask_audio(payload: &mut [u8], data_type: u8, unmasking: Unmasking)
     if is_masked(unmasking.audio, data_type) {
         mask::mask_audio(payload, keys);
     }
+}
+
+// The mask of a video payload of a data type.
+pub fn video_mask(data_type: u8) -> Mask
+    ensures { λ r. ⌜ r ≡ videoMask data_type ⌝ }
+{
+    if is_masked(true, data_type) {
+        return Mask::VideoMask;
+    }
+    Mask::Clear
+}
+
+// The mask of an audio payload of a data type, in a film whose audio codec this is.
+pub fn audio_mask(codec: Codec, data_type: u8) -> Mask
+    ensures { λ r. ⌜ r ≡ audioMask codec data_type ⌝ }
+{
+    if is_masked(is_adx(codec), data_type) {
+        return Mask::AudioMask;
+    }
+    Mask::Clear
+}
+
+// Makes a payload that has a mask clear under a key.
+pub fn clear_by(payload: &mut [u8], number: u64, mask: Mask)
+    ensures { λ _. ⌜ now (payload .exit) ≡ clearedBy number mask (now (payload .entry)) ⌝ }
+{
+    match mask {
+        Mask::Clear => {}
+        Mask::VideoMask => mask::unmask_video(payload, key::key_table(number)),
+        Mask::AudioMask => mask::mask_audio(payload, key::key_table(number)),
+    }
+}
+
+// The number of a mask.
+pub fn mask_number(mask: Mask) -> u8
+    ensures { λ r. ⌜ r ≡ maskNumber mask ⌝ }
+{
+    match mask {
+        Mask::Clear => 0,
+        Mask::VideoMask => 1,
+        Mask::AudioMask => 2,
+    }
+}
+
+// The mask that a number stands for: each but 1 and 2 for none.
+pub fn mask_by(number: u8) -> Mask
+    ensures { λ r. ⌜ r ≡ maskBy number ⌝ }
+{
+    if number == 1 {
+        return Mask::VideoMask;
+    }
+    if number == 2 {
+        return Mask::AudioMask;
+    }
+    Mask::Clear
 }

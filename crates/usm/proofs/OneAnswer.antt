@@ -21,6 +21,9 @@ use Rattle.usm.proofs.salvaging.usm_salvage.Reads as usm-salvage
 use Rattle.usm.proofs.tables.usm_csv.Reads as usm-csv
 use Rattle.usm.proofs.stating.usm_statement.Reads as usm-statement
 use Rattle.usm.proofs.keys.usm_key_bits.Reads as usm-key-bits
+use Rattle.usm.proofs.stepping.usm_open.Reads as usm-open
+use Rattle.usm.proofs.stepping.usm_step.Reads as usm-step
+use Rattle.usm.proofs.stepping.usm_clear.Reads as usm-clear
 
 pub usm-table-once : (κs : _) (args : _) (r r′ : _) (exit exit′ : _) → usm-table.Learnt κs args r exit → usm-table.Learnt κs args r′ exit′ → r ≡ r′
 usm-table-once κs args r r′ exit exit′ = no-second-answer
@@ -82,3 +85,12 @@ usm-profile-once κs args r r′ exit exit′ = no-second-answer
 
 pub usm-key-bits-once : (κs : _) (args : _) (r r′ : _) (exit exit′ : _) → usm-key-bits.Learnt κs args r exit → usm-key-bits.Learnt κs args r′ exit′ → r ≡ r′
 usm-key-bits-once κs args r r′ exit exit′ = no-second-answer
+
+pub usm-open-once : (κs : _) (args : _) (r r′ : _) (exit exit′ : _) → usm-open.Learnt κs args r exit → usm-open.Learnt κs args r′ exit′ → r ≡ r′
+usm-open-once κs args r r′ exit exit′ = no-second-answer
+
+pub usm-step-once : (κs : _) (args : _) (r r′ : _) (exit exit′ : _) → usm-step.Learnt κs args r exit → usm-step.Learnt κs args r′ exit′ → r ≡ r′
+usm-step-once κs args r r′ exit exit′ = no-second-answer
+
+pub usm-clear-once : (κs : _) (args : _) (r r′ : _) (exit exit′ : _) → usm-clear.Learnt κs args r exit → usm-clear.Learnt κs args r′ exit′ → exit .1 .1 .0 .now ≡ exit′ .1 .1 .0 .now
+usm-clear-once κs args r r′ exit exit′ = no-second-answer

@@ -2,4 +2,5 @@ pub mod Exports
 pub mod Writes
 pub mod Moves
 pub mod Tables
+pub mod Steps
 pub mod Promises

@@ -3,6 +3,7 @@ use mathlib.Core.List.{List}
 use Prim.Native.Nat.{ℕ}
 use lib.ListN.{length}
 use Rattle.codec.specs.declared.Codec.{Codec}
+use Rattle.codec.specs.Numbers.{codecBy}
 use Rattle.written.specs.declared.SizeReply.{SizeReply}
 use Rattle.written.specs.Written.{writtenIn}
 use Rattle.old_film.specs.Finding as old
@@ -10,7 +11,7 @@ use Rattle.new_film.specs.Finding as new
 use Rattle.film_move.specs.FromOld.{newBytes, fromOld}
 use Rattle.film_move.specs.ToOld.{oldOf, toOld}
 use Rattle.usm.specs.declared.moving.CodecBytes.{CodecBytes}
-use Rattle.usm.specs.Writes.{codecBy, WrittenAs}
+use Rattle.usm.specs.Writes.{WrittenAs}
 
 -- the codecs that are asked for
 abbrev pub videoCodec : CodecBytes → Codec

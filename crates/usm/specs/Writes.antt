@@ -2,11 +2,10 @@
 use Prim.Native.Nat.{ℕ}
 use mathlib.Core.Path.{_≡_}
 use mathlib.Core.List.{List}
-use mathlib.Core.Bool.{cond, not}
+use mathlib.Core.Bool.{not}
 use lib.ListN.{length}
 use lib.Dec.{eqb}
-use Rattle.codec.specs.declared.Codec.{Codec}
-use Rattle.codec.specs.declared.Codec.the-variants.{Value, Absent}
+use Rattle.codec.specs.Numbers.{codecBy}
 use Rattle.unmasking.specs.Unmasking.{keyBy}
 use Rattle.written.specs.declared.Written.{Written}
 use Rattle.written.specs.declared.SizeReply.{SizeReply}
@@ -15,10 +14,6 @@ use Rattle.film_plan.specs.declared.Packing.{Packing}
 use Rattle.film_plan.specs.Films.{audioIn, filmBytes}
 use Rattle.film_plan.specs.Planning.{plannedOf}
 use Rattle.usm.specs.declared.writing.PackingBytes.{PackingBytes}
-
--- a codec by two numbers: 0 for the first means that there is none
-abbrev pub codecBy : ℕ → ℕ → Codec
-codecBy given number = cond (eqb given 0) Absent (Value number)
 
 -- how a film is packed: 0 for `has_audio` means that there is none
 abbrev pub packingBy : PackingBytes → Packing

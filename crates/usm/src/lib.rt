@@ -6,6 +6,7 @@ pub mod moving;
 mod profiles;
 mod salvaging;
 mod stating;
+mod stepping;
 mod tables;
 pub mod writing;
 

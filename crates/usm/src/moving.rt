@@ -1,6 +1,5 @@
 // A film moved for C between the old builder's container and request 1's. Rules O.
 ghost use Rattle.usm.specs.Moves.{FromOldFor, ToOldFor};
-use crate::writing::codec_by;
 use written::SizeReply;
 
 // The codecs of a film, as C gives them. What is given by 0 is not there, and by every other number it is.
@@ -17,8 +16,8 @@ pub struct CodecBytes {
 pub extern "C" fn usm_from_old(container: &[u8], codecs: CodecBytes, out: &mut [u8]) -> SizeReply
     ensures { λ r. ⌜ FromOldFor (now (container .entry)) codecs (now (out .entry)) r (now (out .exit)) ⌝ }
 {
-    let video = codec_by(codecs.has_video_codec, codecs.video_codec);
-    let audio = codec_by(codecs.has_audio_codec, codecs.audio_codec);
+    let video = codec::codec_by(codecs.has_video_codec, codecs.video_codec);
+    let audio = codec::codec_by(codecs.has_audio_codec, codecs.audio_codec);
     written::size_reply(film_move::from_old(container, video, audio, out))
 }
 

@@ -1,8 +1,7 @@
 // A film written for C. Rules W.
 ghost use mathlib.Core.Path.{_≡_};
-ghost use Rattle.usm.specs.Writes.{codecBy, packingBy, WrittenFor};
+ghost use Rattle.usm.specs.Writes.{packingBy, WrittenFor};
 use crate::KeyBytes;
-use codec::Codec;
 use film_plan::Packing;
 use written::SizeReply;
 
@@ -17,16 +16,6 @@ pub struct PackingBytes {
     pub has_audio_codec: u8,
 }
 
-// A codec as C gives it.
-pub(crate) fn codec_by(given: u8, number: u32) -> Codec
-    ensures { λ r. ⌜ r ≡ codecBy given number ⌝ }
-{
-    if given == 0 {
-        return Codec::Absent;
-    }
-    Codec::Value(number)
-}
-
 // What C asks for.
 fn packing_by(asked: PackingBytes) -> Packing
     ensures { λ r. ⌜ r ≡ packingBy asked ⌝ }
@@ -34,8 +23,8 @@ fn packing_by(asked: PackingBytes) -> Packing
     let key = asked.key;
     Packing {
         audio: asked.has_audio != 0,
-        mpeg_codec: codec_by(asked.has_video_codec, asked.video_codec),
-        audio_codec: codec_by(asked.has_audio_codec, asked.audio_codec),
+        mpeg_codec: codec::codec_by(asked.has_video_codec, asked.video_codec),
+        audio_codec: codec::codec_by(asked.has_audio_codec, asked.audio_codec),
         key: unmasking::key_by(key.given, key.number),
     }
 }

@@ -1,7 +1,7 @@
--- `usm::writing::codec_by` meets its contract: the test on the number is the definition's. Assumes nothing.
+-- `codec::codec_by` meets its contract: the test on the number is the definition's. Assumes nothing.
 use borrow.Author.Tests.{eq-eqb, ne-eqb}
-use Rattle.usm.proofs.writing.codec_by.Statement.{statement}
-use Rattle.usm.proofs.writing.codec_by.Tie as tie
+use Rattle.codec.proofs.codec_by.Statement.{statement}
+use Rattle.codec.proofs.codec_by.Tie as tie
 
 returns : tie.Need-returns
 returns c = rw (eq-eqb _ _ (c .if1 .taken))
