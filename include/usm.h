@@ -81,7 +81,7 @@ void usm_mask_audio(uint64_t key, uint8_t *payload, size_t len);
 
 /*
  * Replies. Every function below returns its reply, a struct by value that has a name for each thing.
- * Three fields are in all of them but that of usm_seek, which refuses nothing:
+ * Three fields are in all of them but that of usm_seek, which refuses nothing (usm_open has them in `film`):
  *
  *     number        0 where the answer is accepted, another where it is refused, as follows
  *     refused_at    the place that is refused: in a film the start of the block or chunk being read,
@@ -383,6 +383,99 @@ struct usm_list_reply usm_list(const uint8_t *container, size_t len, struct usm_
                                struct usm_chunk *list, size_t room);
 
 /*
+ * Reading piece by piece: a film of any size in little memory. usm_open reads the header from the film's
+ * first bytes; usm_step finds one chunk after the other, from the 45 bytes that stand at its start;
+ * usm_clear makes a payload clear. No function keeps anything between two calls.
+ *
+ *     struct usm_open_reply opened = usm_open(beginning, len, total, reading);
+ *     struct usm_film_audio audio = usm_audio_of(opened.film);
+ *     size_t place = opened.chunks;
+ *     for (;;) {
+ *         struct usm_step_reply step = usm_step(window, window_len, place, total, reading, audio);
+ *         if (step.number != USM_ACCEPTED || step.found == USM_STEP_OVER)
+ *             break;
+ *         .. read step.length bytes from byte step.payload of the film ..
+ *         usm_clear(key, step.mask, payload, step.length);
+ *         .. append them to the video or the audio stream, by step.kind ..
+ *         place = step.next;
+ *     }
+ *
+ * The chunks that the steps find are those of usm_list, and a film that is refused is refused with the
+ * number and the place that usm_extract gives, however the film is cut into pieces (proved). The payloads
+ * of one kind, made clear and put one after the other, are the stream that usm_extract writes under that
+ * key; without a key they are not made clear (proved). A refusal can come late: a caller that writes while
+ * it walks has written by then, and one that wants nothing written walks all steps first.
+ */
+
+/* The reply on a beginning. 72 bytes. */
+struct usm_open_reply {
+    struct usm_film_reply film; /* as usm_extract replies it, but with both sizes 0; a name of the container lies
+                                   within the beginning, and where the film has none the length is 0 */
+    size_t chunks;              /* where the first chunk starts; 0 beside a refusal */
+    uint8_t more;               /* 1 where a longer beginning is needed to say; all else is 0 then */
+};
+
+/*
+ * What a film of `total` bytes is, by its first `len` bytes: the header, or the film's refusal, or that
+ * more bytes are needed. A beginning never says what the whole film does not, and the whole film never
+ * needs more (proved). Lend some KiB first, then twice as many.
+ */
+struct usm_open_reply usm_open(const uint8_t *beginning, size_t len, size_t total,
+                               struct usm_reading reading);
+
+/* What a film's header says of its audio: has_audio, audio_codec and has_audio_codec of its reply. 8 bytes. */
+struct usm_film_audio {
+    uint32_t codec;
+    uint8_t present;
+    uint8_t has_codec;
+};
+
+static inline struct usm_film_audio usm_audio_of(struct usm_film_reply film)
+{
+    struct usm_film_audio audio = {film.audio_codec, film.has_audio, film.has_audio_codec};
+    return audio;
+}
+
+/* The reply on a place. 40 bytes. */
+struct usm_step_reply {
+    size_t refused_at;
+    size_t next;          /* where the next step is to be asked; the fields from here on are of a chunk */
+    size_t payload;       /* where the payload starts in the film */
+    size_t length;        /* its bytes, 0 where it is skipped; it lies within the film (proved) */
+    uint8_t number;
+    uint8_t unknown_type; /* always 0: chunks have no columns */
+    uint8_t found;        /* what was found, see below */
+    uint8_t kind;         /* as in usm_chunk, and so are the next two */
+    uint8_t data_type;
+    uint8_t channel;
+    uint8_t mask;         /* the mask that the payload has: see below */
+};
+
+/* What a step finds: the end of all chunks, a chunk, or that the window is too short to say. */
+#define USM_STEP_OVER 0
+#define USM_STEP_CHUNK 1
+#define USM_STEP_MORE 2
+
+/* The mask of a payload: none, that of video, or that of audio. */
+#define USM_MASK_NONE 0
+#define USM_MASK_VIDEO 1
+#define USM_MASK_AUDIO 2
+
+/*
+ * What stands at byte `place` of a film of `total` bytes, by the `len` bytes at `window`, which stand
+ * there: 45 of them, or all that are left, always suffice (proved). `audio` is what the header says.
+ * Of the numbers it gives USM_TOO_LONG and those of a chunk: 1, 9 and 17.
+ */
+struct usm_step_reply usm_step(const uint8_t *window, size_t len, size_t place, size_t total,
+                               struct usm_reading reading, struct usm_film_audio audio);
+
+/*
+ * Makes the whole payload of a step clear, in place. Where `mask` is neither USM_MASK_VIDEO nor
+ * USM_MASK_AUDIO nothing changes.
+ */
+void usm_clear(uint64_t key, uint8_t mask, uint8_t *payload, size_t len);
+
+/*
  * Writing. What is written goes into the output of `out_len` bytes at `out`, from its first byte on;
  * bytes past it are unchanged. Where the output is too short it is unchanged, and the reply has the
  * size: lend it with length 0 to learn the size.
@@ -640,8 +733,8 @@ struct usm_key_bits_reply {
 /*
  * Which bits of a key change the streams of a film, read so. Under two keys usm_extract leaves the same two streams
  * exactly when `key & bits` is one number (proved); so the bits that are not set can be cleared in a key, or typed
- * wrong, and nothing changes (proved). A picture of data type 0 and 0x240 bytes or more shows all that count:
- * 0x00FFFF0FFFFFFFFF. ADX sound of data type 0 shows, from 0x141 bytes on, bits 0 to 7; from 0x143 16 to 23 too; from
+ * wrong, and nothing changes (proved). A video payload of data type 0 and 0x240 bytes or more shows all that count:
+ * 0x00FFFF0FFFFFFFFF. An ADX payload of data type 0 shows, from 0x141 bytes on, bits 0 to 7; from 0x143 16 to 23 too; from
  * 0x145 32 to 35; from 0x147 48 to 55; from 0x149 8 to 15; from 0x14F 24 to 31; from 0x159 40 to 47, which are all. No
  * stream is unpacked, and no key is asked for.
  */
