@@ -1,13 +1,13 @@
 #!/usr/bin/env python3
-"""Makes stdin and stdout of crates/replay_moves: containers to be moved, and what has to come of each.
+"""Makes stdin and stdout of crates/gate_moves: containers to be moved, and what has to come of each.
 
-    compare films | python3 compare/record_moves.py crates/replay_moves
+    compare films | python3 compare/record_moves.py crates/gate_moves
 
 It reads films that the original's builder wrote, with what each is made of (compare/src/moves/record.rs), and knows
 nothing of the library. It states rules O of docs/RULES.md once more, in the plainest way: parts are taken where they
 should stand, with nothing checked, the film is put together anew from them, and both are compared whole. It stops
 where it would write another film than the builder wrote. Rules W are those of record_writes.py. The format of both
-files is in crates/replay_moves/README.md.
+files is in crates/gate_moves/README.md.
 """
 import sys
 from collections import namedtuple

@@ -1,11 +1,11 @@
 #!/usr/bin/env python3
-"""Makes stdin and stdout of crates/replay_writes: a list of films to be written, and what has to come of each.
+"""Makes stdin and stdout of crates/gate_writes: a list of films to be written, and what has to come of each.
 
-    python3 compare/record_writes.py crates/replay_writes
+    python3 compare/record_writes.py crates/gate_writes
 
 It knows nothing of the library. It states rules W of docs/RULES.md once more, in the plainest way: a film is put
 together block by block as a bytes object, payloads are masked byte by byte by rules K and M, and what is read back is
-what was given. The format of both files is in crates/replay_writes/README.md.
+what was given. The format of both files is in crates/gate_writes/README.md.
 """
 import sys
 

@@ -1,7 +1,7 @@
 #!/usr/bin/env python3
 """Uploads that stopped early (request 12), in the plainest way: cut at every chunk start, and read anew.
 
-    compare/salvages.py                   write crates/replay_salvages/stdin and stdout
+    compare/salvages.py                   write crates/gate_salvages/stdin and stdout
     compare/salvages.py LIBRARY [COUNT]   ask usm_salvage of a shared library on COUNT random films (20,000)
 
 Nothing of the library is used for the answers: rules T, H and C stand here once more, by the letters of

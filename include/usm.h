@@ -707,10 +707,10 @@ struct usm_share {
 };
 
 /*
- * Fills `lines`, which has room for `room` of them, with a line for each tenant, by rising tenant number, whatever
+ * Fills `chunk_lines`, which has room for `room` of them, with a line for each tenant, by rising tenant number, whatever
  * the order of `tenants`. `count` of the reply is the tenants' count, also beside USM_SHORT_LIST. Refusals, in this
  * order: USM_TOO_LONG; USM_BAD_TENANTS; what the header and the chunks are refused for, with `refused_at`;
- * USM_SHORT_LIST. A refusal leaves `lines` as they were, and lines past the count are unchanged. `lines` overlaps
+ * USM_SHORT_LIST. A refusal leaves `chunk_lines` as they were, and lines past the count are unchanged. `chunk_lines` overlaps
  * neither the container nor `tenants`.
  */
 struct usm_list_reply usm_statement(const uint8_t *container, size_t len,

@@ -1,4 +1,4 @@
 // Prints the chunks of the container on standard input, a line each, or why it is refused.
 fn main() {
-    show::run();
+    chunks_print::run();
 }

@@ -9,8 +9,8 @@ use lib.ListN.{length, take, drop}
 use lib.Seq.{sets-eq, take-at}
 use lib.Dec.{eqb}
 use borrow.Author.Tests.{eqb-false}
-use Rattle.written.specs.declared.Written.the-variants.{Size}
-use Rattle.written.proofs.RoomLaws.{planned-so}
+use Rattle.lent.specs.declared.Written.the-variants.{Size}
+use Rattle.lent.proofs.RoomLaws.{planned-so}
 use Rattle.reading.specs.declared.TableMode.{TableMode}
 use Rattle.layout.specs.declared.Layout.{Layout}
 use Rattle.layout.specs.Layouts.{bodyOf}

@@ -17,8 +17,8 @@ use Rattle.table.specs.Tables.{tableAt}
 use Rattle.table.proofs.Promises.{AcceptedLiesWithin}
 use Rattle.csv_text.specs.Written.{csvOf}
 use Rattle.csv.specs.Texts.{textsOf}
-use Rattle.written.specs.declared.Written.{Written}
-use Rattle.written.specs.declared.Written.the-variants.{Refused}
+use Rattle.lent.specs.declared.Written.{Written}
+use Rattle.lent.specs.declared.Written.the-variants.{Refused}
 use Rattle.csv.specs.Writing.{textsAt, WritingOf, Writing}
 
 pub sized : {csv out after : List ℕ} {size : ℕ} → Put csv out 0 after size → size ≡ length csv

@@ -13,7 +13,7 @@ use Rattle.column.specs.Storages.{inRecord, inRow}
 use Rattle.table.specs.declared.TableAnswer.the-variants.{Table}
 use Rattle.table.specs.Tables.{tableAt}
 use Rattle.csv_text.specs.Reading.{recordsIn}
-use Rattle.written.specs.declared.Written.the-variants.{Size}
+use Rattle.lent.specs.declared.Written.the-variants.{Size}
 use Rattle.csv.specs.declared.Line.{Line}
 use Rattle.csv.specs.declared.Line.the-variants.{Names, Cells}
 use Rattle.csv.specs.Texts.{cellOn, rowEnd}

@@ -9,9 +9,9 @@ use Rattle.table.specs.declared.TableAnswer.{TableAnswer}
 use Rattle.table.specs.declared.TableAnswer.the-variants.{Table, NoTable}
 use Rattle.table.specs.Tables.{tableAt}
 use Rattle.csv_text.specs.Written.{csvOf}
-use Rattle.written.specs.declared.Written.{Written}
-use Rattle.written.specs.declared.Written.the-variants.{Size, Refused}
-use Rattle.written.specs.Written.{writtenIn, leftBy}
+use Rattle.lent.specs.declared.Written.{Written}
+use Rattle.lent.specs.declared.Written.the-variants.{Size, Refused}
+use Rattle.lent.specs.Written.{writtenIn, leftBy}
 use Rattle.csv.specs.Texts.{textsOf}
 
 abbrev pub textsIn : List ℕ → TableAnswer → List (List (List ℕ))

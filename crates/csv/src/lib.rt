@@ -16,10 +16,10 @@ use cell::Cell;
 use cell::CellAnswer;
 use column::Storage;
 use layout::Layout;
+use lent::Written;
 use reading::TableMode;
 use refusal::Cause;
 use table::TableAnswer;
-use written::Written;
 
 // What a line shows of its columns: their names, or their cells in a row.
 enum Line {
@@ -255,7 +255,7 @@ fn write_body(body: &[u8], layout: Layout, out: &mut [u8]) -> Written
 {
     let mut none = [0u8; 0];
     let size = put_table(&mut none, body, layout);
-    match written::written_in(out.len(), Written::Size(size)) {
+    match lent::written_in(out.len(), Written::Size(size)) {
         Written::Size(size) => {
             put_table(out, body, layout);
             Written::Size(size)

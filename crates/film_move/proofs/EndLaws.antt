@@ -7,16 +7,16 @@ use lib.ListN.{length}
 use Rattle.laws.specs.Outputs.{Put}
 use Rattle.laws.proofs.PutLaws.{put-as}
 use Rattle.signature.specs.Signatures.{SFV, contentsEnd}
-use Rattle.film_blocks.specs.Blocks.{blockOf}
-use Rattle.film_blocks.specs.Tables.{markerOf}
-use Rattle.film_plan.specs.declared.Stream.{Stream}
-use Rattle.film_plan.specs.declared.Stream.the-variants.{Video, Audio}
-use Rattle.film_plan.specs.Films.{bytesOf, inEach}
+use Rattle.write_blocks.specs.Blocks.{blockOf}
+use Rattle.write_blocks.specs.Tables.{markerOf}
+use Rattle.write_plan.specs.declared.Stream.{Stream}
+use Rattle.write_plan.specs.declared.Stream.the-variants.{Video, Audio}
+use Rattle.write_plan.specs.Films.{bytesOf, inEach}
 use Rattle.write.proofs.EachPutLaws.{first-fits, second-fits, both-put, one-put}
-use Rattle.film_turns.specs.declared.Form.the-variants.{New}
-use Rattle.film_turns.specs.declared.Track.the-variants as track
-use Rattle.film_turns.specs.Chunks.{chunkOf}
-use Rattle.new_film.proofs.NewLaws.{chunk-new}
+use Rattle.turns.specs.declared.Form.the-variants.{New}
+use Rattle.turns.specs.declared.Track.the-variants as track
+use Rattle.turns.specs.Chunks.{chunkOf}
+use Rattle.moved_film.proofs.NewLaws.{chunk-new}
 
 abbrev held : Stream → List ℕ
 held stream = markerOf contentsEnd

@@ -16,24 +16,24 @@ use Rattle.refusal.specs.declared.Cause.the-variants.{TooLong, MarkedPayload, C
 use Rattle.refusal.specs.declared.Refusal.{Refusal}
 use Rattle.codec.specs.declared.Codec.{Codec}
 use Rattle.unmasking.specs.declared.Key.the-variants.{Absent}
-use Rattle.written.specs.declared.Written.{Written}
-use Rattle.written.specs.declared.Written.the-variants.{Size, Refused}
-use Rattle.written.specs.Written.{writtenIn, leftBy}
-use Rattle.film_plan.specs.declared.Packing.{Packing}
-use Rattle.film_plan.specs.Payloads.{payloadsOf}
-use Rattle.film_plan.specs.Films.{bytesOf, endBlocks, audioIn, filmBytes}
-use Rattle.film_plan.specs.Planning.{anyMarked, isGiven, refusedBy, plannedOf}
-use Rattle.film_plan.proofs.PlanLaws.{accepted}
+use Rattle.lent.specs.declared.Written.{Written}
+use Rattle.lent.specs.declared.Written.the-variants.{Size, Refused}
+use Rattle.lent.specs.Written.{writtenIn, leftBy}
+use Rattle.write_plan.specs.declared.Packing.{Packing}
+use Rattle.write_plan.specs.Payloads.{payloadsOf}
+use Rattle.write_plan.specs.Films.{bytesOf, endBlocks, audioIn, filmBytes}
+use Rattle.write_plan.specs.Planning.{anyMarked, isGiven, refusedBy, plannedOf}
+use Rattle.write_plan.proofs.PlanLaws.{accepted}
 use Rattle.write.specs.Writing.{WritingOf, Writing}
-use Rattle.film_turns.specs.declared.Form.{Form}
-use Rattle.film_turns.specs.declared.Form.the-variants.{Old, New}
-use Rattle.film_turns.specs.Turns.{chunksOf, streamSize, Read, readIn}
-use Rattle.film_turns.proofs.SizeLaws.{size-few, chunks-length, read-fits}
-use Rattle.film_turns.proofs.PayloadLaws.{part-again}
+use Rattle.turns.specs.declared.Form.{Form}
+use Rattle.turns.specs.declared.Form.the-variants.{Old, New}
+use Rattle.turns.specs.Turns.{chunksOf, streamSize, Read, readIn}
+use Rattle.turns.proofs.SizeLaws.{size-few, chunks-length, read-fits}
+use Rattle.turns.proofs.PayloadLaws.{part-again}
 use Rattle.word.specs.Numbers.{be32}
-use Rattle.new_film.proofs.FilmLaws.{header, ends, film-laid, frame-laid, header-size}
-use Rattle.new_film.proofs.FindLaws.{rest-part}
-use Rattle.new_film.proofs.FrameLaws.{none-either}
+use Rattle.moved_film.proofs.FilmLaws.{header, ends, film-laid, frame-laid, header-size}
+use Rattle.moved_film.proofs.FindLaws.{rest-part}
+use Rattle.moved_film.proofs.FrameLaws.{none-either}
 use Rattle.old_film.specs.declared.OldFilm.{OldFilm}
 use Rattle.old_film.specs.declared.Found.the-variants.{Film, Foreign}
 use Rattle.old_film.specs.Finding.{Parts, partsOf, isOld, filmBy, foundIn}

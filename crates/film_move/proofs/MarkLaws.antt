@@ -8,16 +8,16 @@ use native.Mathlib.Omega.{arith}
 use lib.ListN.{length, drop}
 use lib.Dec.{ltb}
 use Rattle.signature.specs.Signatures.{contentsEnd, sameBytes, standsAt}
-use Rattle.film_turns.specs.declared.Track.{Track}
-use Rattle.film_turns.specs.declared.Track.the-variants.{Video, Audio}
-use Rattle.film_plan.specs.Payloads.{payloadsOf}
-use Rattle.film_plan.specs.Planning.{anyMarked}
-use Rattle.film_plan.proofs.PayloadLaws.{payloads-none, payloads-more}
-use Rattle.film_turns.specs.declared.Form.{Form}
-use Rattle.film_turns.specs.declared.Form.the-variants.{New}
-use Rattle.film_turns.specs.Chunks.{chunkOf, chunkSize, insideOf, heldBy, payloadIn}
-use Rattle.film_turns.specs.Turns.{Read, goesOn, seenIn, heardIn, turnSize, readFrom}
-use Rattle.film_turns.proofs.ReadLaws.{held, Joins, first-part, later-part, joins, joins-audio, read-none, by-cases}
+use Rattle.turns.specs.declared.Track.{Track}
+use Rattle.turns.specs.declared.Track.the-variants.{Video, Audio}
+use Rattle.write_plan.specs.Payloads.{payloadsOf}
+use Rattle.write_plan.specs.Planning.{anyMarked}
+use Rattle.write_plan.proofs.PayloadLaws.{payloads-none, payloads-more}
+use Rattle.turns.specs.declared.Form.{Form}
+use Rattle.turns.specs.declared.Form.the-variants.{New}
+use Rattle.turns.specs.Chunks.{chunkOf, chunkSize, insideOf, heldBy, payloadIn}
+use Rattle.turns.specs.Turns.{Read, goesOn, seenIn, heardIn, turnSize, readFrom}
+use Rattle.turns.proofs.ReadLaws.{held, Joins, first-part, later-part, joins, joins-audio, read-none, by-cases}
 
 pub none-marked : anyMarked (payloadsOf []) ≡ false
 unfolding anyMarked

@@ -9,18 +9,18 @@ use lib.Seq.{drop-drop, take-all}
 use lib.Dec.{eqb}
 use Rattle.laws.specs.Outputs.{Put}
 use Rattle.laws.proofs.PutLaws.{Left, all-left, less-left, left-fits, next-fits, none-left, put-then}
-use Rattle.film_blocks.specs.Blocks.{zeros}
-use Rattle.film_turns.specs.declared.Track.{Track}
-use Rattle.film_turns.specs.declared.Track.the-variants.{Video, Audio}
-use Rattle.film_turns.specs.declared.Form.{Form}
-use Rattle.film_turns.specs.declared.Shape.{Shape}
-use Rattle.film_turns.specs.declared.Turns.{Turns}
-use Rattle.film_turns.specs.Chunks.{shapeOf, headBy, chunkOf, chunkSize, gapOf}
+use Rattle.write_blocks.specs.Blocks.{zeros}
+use Rattle.turns.specs.declared.Track.{Track}
+use Rattle.turns.specs.declared.Track.the-variants.{Video, Audio}
+use Rattle.turns.specs.declared.Form.{Form}
+use Rattle.turns.specs.declared.Shape.{Shape}
+use Rattle.turns.specs.declared.Turns.{Turns}
+use Rattle.turns.specs.Chunks.{shapeOf, headBy, chunkOf, chunkSize, gapOf}
 use Rattle.part.specs.Parts.{partAt}
-use Rattle.film_turns.specs.Turns.{nextOf, turnsOf, Read, nothing, seenIn, heardIn, readFrom, readIn}
-use Rattle.film_turns.proofs.TurnLaws.{TurnAnswers, read-over, end-fits, goes-on, after, rest-is}
-use Rattle.film_turns.proofs.ReadLaws.{held, joins, joins-audio, turns-more, turns-none, turns-same, read-few}
-use Rattle.film_turns.proofs.PayloadLaws.{payload-is}
+use Rattle.turns.specs.Turns.{nextOf, turnsOf, Read, nothing, seenIn, heardIn, readFrom, readIn}
+use Rattle.turns.proofs.TurnLaws.{TurnAnswers, read-over, end-fits, goes-on, after, rest-is}
+use Rattle.turns.proofs.ReadLaws.{held, joins, joins-audio, turns-more, turns-none, turns-same, read-few}
+use Rattle.turns.proofs.PayloadLaws.{payload-is}
 use Rattle.film_move.specs.Moving.{movedFrom}
 
 -- ---- a chunk

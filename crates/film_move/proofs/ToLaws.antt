@@ -13,32 +13,32 @@ use Rattle.part.specs.Parts.{partAt}
 use Rattle.signature.specs.Signatures.{CRID, SFV, sameBytes}
 use Rattle.refusal.specs.declared.Cause.the-variants.{TooLong}
 use Rattle.refusal.specs.declared.Cause.the-variants as cause
-use Rattle.written.specs.declared.Written.{Written}
-use Rattle.written.specs.declared.Written.the-variants.{Size, Refused}
+use Rattle.lent.specs.declared.Written.{Written}
+use Rattle.lent.specs.declared.Written.the-variants.{Size, Refused}
 use Rattle.utf8.specs.Utf8.{isUtf8}
 use Rattle.header.specs.declared.HeaderAnswer.{HeaderAnswer}
 use Rattle.header.specs.declared.HeaderAnswer.the-variants as header
-use Rattle.film_blocks.specs.Blocks.{blockOf}
-use Rattle.film_blocks.specs.Tables.{nameTable}
-use Rattle.film_plan.specs.Films.{bytesOf, headerBlocks, filmBytes}
-use Rattle.film_plan.specs.Planning.{refusedBy}
-use Rattle.film_plan.proofs.BlockLaws.{header-bytes}
-use Rattle.repack.proofs.FilmBackLaws.{part-held}
-use Rattle.film_turns.specs.declared.Form.the-variants.{Old, New}
-use Rattle.film_turns.specs.Turns.{chunksOf, streamSize, Read, readIn}
-use Rattle.film_turns.proofs.FrontLaws.{both-true, same-true}
-use Rattle.film_turns.proofs.ReadLaws.{no-audio}
-use Rattle.film_turns.proofs.SizeLaws.{chunks-length, read-fits}
+use Rattle.write_blocks.specs.Blocks.{blockOf}
+use Rattle.write_blocks.specs.Tables.{nameTable}
+use Rattle.write_plan.specs.Films.{bytesOf, headerBlocks, filmBytes}
+use Rattle.write_plan.specs.Planning.{refusedBy}
+use Rattle.write_plan.proofs.BlockLaws.{header-bytes}
+use Rattle.promises_write.proofs.FilmBackLaws.{part-held}
+use Rattle.turns.specs.declared.Form.the-variants.{Old, New}
+use Rattle.turns.specs.Turns.{chunksOf, streamSize, Read, readIn}
+use Rattle.turns.proofs.FrontLaws.{both-true, same-true}
+use Rattle.turns.proofs.ReadLaws.{no-audio}
+use Rattle.turns.proofs.SizeLaws.{chunks-length, read-fits}
 use Rattle.old_film.specs.Blocks.{tableBlock}
 use Rattle.old_film.specs.Tables.{oldNames, oldVideo}
 use Rattle.old_film.specs.Films.{audioBlocks, oldEnds, oldBytes}
 use Rattle.old_film.specs.Finding.{nameSize, audiosOf}
 use Rattle.old_film.proofs.FindLaws.{name-block-length, video-block-length, turns-same-old}
-use Rattle.new_film.specs.declared.NewFilm.{NewFilm}
-use Rattle.new_film.specs.declared.Found.the-variants.{Film, Foreign}
-use Rattle.new_film.specs.Finding.{Parts, answerIn, headerBy, partsBy, partsOf, rebuilt, isNewBy, isNew, filmBy, foundIn}
-use Rattle.new_film.proofs.FindLaws.{rest-part}
-use Rattle.new_film.proofs.HeaderLaws as read
+use Rattle.moved_film.specs.declared.NewFilm.{NewFilm}
+use Rattle.moved_film.specs.declared.Found.the-variants.{Film, Foreign}
+use Rattle.moved_film.specs.Finding.{Parts, answerIn, headerBy, partsBy, partsOf, rebuilt, isNewBy, isNew, filmBy, foundIn}
+use Rattle.moved_film.proofs.FindLaws.{rest-part}
+use Rattle.moved_film.proofs.HeaderLaws as read
 use Rattle.film_move.specs.Moving.{movedFrom}
 use Rattle.film_move.specs.ToOld.{oldOf, toOld, ToOld}
 use Rattle.film_move.proofs.OldPutLaws.{blocks}

@@ -9,14 +9,14 @@ use Rattle.refusal.specs.declared.Cause.{Cause}
 use Rattle.refusal.specs.declared.Cause.the-variants.{TooLong, MarkedPayload, Foreign, ManyAudios}
 use Rattle.codec.specs.declared.Codec.{Codec}
 use Rattle.unmasking.specs.declared.Key.the-variants.{Absent}
-use Rattle.written.specs.declared.Written.{Written}
-use Rattle.written.specs.declared.Written.the-variants.{Size}
-use Rattle.written.specs.Written.{writtenIn, leftBy}
-use Rattle.film_plan.specs.declared.Packing.{Packing}
-use Rattle.film_plan.specs.Films.{filmBytes}
-use Rattle.film_plan.specs.Planning.{refusedBy, plannedOf}
+use Rattle.lent.specs.declared.Written.{Written}
+use Rattle.lent.specs.declared.Written.the-variants.{Size}
+use Rattle.lent.specs.Written.{writtenIn, leftBy}
+use Rattle.write_plan.specs.declared.Packing.{Packing}
+use Rattle.write_plan.specs.Films.{filmBytes}
+use Rattle.write_plan.specs.Planning.{refusedBy, plannedOf}
 use Rattle.old_film.specs.Finding.{Parts, partsOf, isOld}
-use Rattle.old_audios.specs.Audios.{isMany}
+use Rattle.old_film_many.specs.Audios.{isMany}
 
 -- the size of a film, or 11 and 15. It serves the contract of what plans by sizes
 abbrev pub plannedAs : ℕ → Bool → Written

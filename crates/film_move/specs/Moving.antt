@@ -2,8 +2,8 @@
 use Prim.Native.Nat.{ℕ}
 use mathlib.Core.List.{List}
 use mathlib.Core.Bool.{Bool}
-use Rattle.film_turns.specs.declared.Form.{Form}
-use Rattle.film_turns.specs.Turns.{chunksOf, readIn}
+use Rattle.turns.specs.declared.Form.{Form}
+use Rattle.turns.specs.Turns.{chunksOf, readIn}
 
 -- the chunks that bytes begin with in one container, as those of the other
 unfoldable pub movedFrom : Form → Form → Bool → List ℕ → List ℕ

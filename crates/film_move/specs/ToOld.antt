@@ -6,13 +6,13 @@ use mathlib.Core.Bool.{cond}
 use lib.ListN.{length}
 use lib.Dec.{ltb}
 use Rattle.refusal.specs.declared.Cause.the-variants.{TooLong, Foreign}
-use Rattle.written.specs.declared.Written.{Written}
-use Rattle.written.specs.declared.Written.the-variants.{Size}
-use Rattle.written.specs.Written.{writtenIn, leftBy}
-use Rattle.film_plan.specs.Planning.{refusedBy}
+use Rattle.lent.specs.declared.Written.{Written}
+use Rattle.lent.specs.declared.Written.the-variants.{Size}
+use Rattle.lent.specs.Written.{writtenIn, leftBy}
+use Rattle.write_plan.specs.Planning.{refusedBy}
 use Rattle.old_film.specs.Films.{oldBytes}
 use Rattle.old_film.specs.Finding.{audiosOf}
-use Rattle.new_film.specs.Finding.{Parts, partsOf, isNew}
+use Rattle.moved_film.specs.Finding.{Parts, partsOf, isNew}
 
 -- what the builder writes from a film's parts
 abbrev pub oldOf : Parts → List ℕ

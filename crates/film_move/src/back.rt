@@ -7,24 +7,24 @@ ghost use lib.ListN.{length};
 ghost use lib.Seq.{sets};
 ghost use Rattle.laws.specs.Outputs.{Put};
 ghost use Rattle.signature.specs.Signatures.{CRID, SFV};
-ghost use Rattle.film_turns.specs.declared.Form.the-variants as form;
-ghost use Rattle.film_turns.specs.Turns.{streamSize};
+ghost use Rattle.turns.specs.declared.Form.the-variants as form;
+ghost use Rattle.turns.specs.Turns.{streamSize};
 ghost use Rattle.old_film.specs.Blocks.{tableBlock};
 ghost use Rattle.old_film.specs.Tables.{oldNames, oldVideo};
 ghost use Rattle.old_film.specs.Films.{audioBlocks, oldEnds};
 ghost use Rattle.old_film.specs.Finding.{nameSize, audiosOf};
-ghost use Rattle.new_film.specs.Finding.{partsOf, isNew, filmBy};
+ghost use Rattle.moved_film.specs.Finding.{partsOf, isNew, filmBy};
 ghost use Rattle.film_move.specs.ToOld.{oldOf, ToOld};
 use crate::LONGEST;
 use crate::putting::move_turns;
 use crate::putting::put;
 use crate::putting::put_zeros;
 use crate::putting::refused;
-use film_turns::Form;
-use new_film::Found;
-use new_film::NewFilm;
+use lent::Written;
+use moved_film::Found;
+use moved_film::NewFilm;
 use refusal::Cause;
-use written::Written;
+use turns::Form;
 
 // Puts the builder's first block, with a film's name.
 fn put_name(out: &mut [u8], at: usize, name: &[u8]) -> usize
@@ -35,7 +35,7 @@ fn put_name(out: &mut [u8], at: usize, name: &[u8]) -> usize
     let head = old_film::name_head(len as u32);
     let at = put(out, at, &head);
     let at = put(out, at, name);
-    put_zeros(out, at, 1 + film_blocks::padding(97 + len))
+    put_zeros(out, at, 1 + write_blocks::padding(97 + len))
 }
 
 // Puts the blocks of a video of `video` bytes and, if there is one, of the audio.
@@ -81,9 +81,9 @@ fn old_size(film: NewFilm) -> usize
     ensures { λ r. ⌜ r ≡ nameSize (film .name) + (0x80 + (length (audioBlocks 0 (audiosOf (film .packing .audio) [])) + length (oldEnds (audiosOf (film .packing .audio) [])))) + (streamSize form.Old (film .turns .video) + streamSize form.Old (film .turns .audio)) ⌝ }
 {
     let len = 97 + film.name;
-    let frame = len + film_blocks::padding(len) + blocks_size(film.packing.audio);
-    let video = film_turns::stream_size(Form::Old, film.turns.video as u32);
-    let audio = film_turns::stream_size(Form::Old, film.turns.audio as u32);
+    let frame = len + write_blocks::padding(len) + blocks_size(film.packing.audio);
+    let video = turns::stream_size(Form::Old, film.turns.video as u32);
+    let audio = turns::stream_size(Form::Old, film.turns.audio as u32);
     frame + (video + audio)
 }
 
@@ -92,7 +92,7 @@ fn put_back(out: &mut [u8], container: &[u8], film: NewFilm)
     requires { ⌜ (length (now container) ≤ 0x40000000) × (isNew (now container) ≡ true) × (film ≡ filmBy (partsOf (now container))) × (length (oldOf (partsOf (now container))) ≤ length (now out)) ⌝ }
     ensures { λ _. ⌜ now (out .exit) ≡ sets (now (out .entry)) 0 (oldOf (partsOf (now (container .entry)))) ⌝ }
 {
-    let name = part::part_at(container, new_film::NAME, film.name);
+    let name = part::part_at(container, moved_film::NAME, film.name);
     let at = put_name(out, 0, name);
     let at = put_blocks(out, at, film.turns.video, film.packing.audio);
     let left = word::left_from(container, film.start);
@@ -107,7 +107,7 @@ fn move_back(container: &[u8], film: NewFilm, out: &mut [u8]) -> Written
     ensures { λ r. ⌜ ToOld (now (container .entry)) (now (out .entry)) r (now (out .exit)) ⌝ }
 {
     let size = old_size(film);
-    match written::written_in(out.len(), Written::Size(size)) {
+    match lent::written_in(out.len(), Written::Size(size)) {
         Written::Size(size) => {
             put_back(out, container, film);
             Written::Size(size)
@@ -124,7 +124,7 @@ pub fn to_old(container: &[u8], out: &mut [u8]) -> Written
     if LONGEST < container.len() {
         return refused(Cause::TooLong);
     }
-    match new_film::find(container) {
+    match moved_film::find(container) {
         Found::Film(film) => move_back(container, film, out),
         Found::Foreign => refused(Cause::Foreign),
     }

@@ -7,13 +7,13 @@ ghost use lib.Seq.{sets};
 ghost use Rattle.laws.specs.Outputs.{Put};
 ghost use Rattle.signature.specs.Signatures.{contentsEnd};
 ghost use Rattle.unmasking.specs.declared.Key.the-variants as key;
-ghost use Rattle.written.specs.declared.Written.the-variants as written;
-ghost use Rattle.film_blocks.specs.Tables.{markerOf};
-ghost use Rattle.film_plan.specs.Films.{bytesOf, inEach, filmBytes};
-ghost use Rattle.film_plan.specs.Planning.{plannedOf};
+ghost use Rattle.lent.specs.declared.Written.the-variants as written;
+ghost use Rattle.write_blocks.specs.Tables.{markerOf};
+ghost use Rattle.write_plan.specs.Films.{bytesOf, inEach, filmBytes};
+ghost use Rattle.write_plan.specs.Planning.{plannedOf};
 ghost use Rattle.write.specs.Writing.{WritingOf};
-ghost use Rattle.film_turns.specs.declared.Form.the-variants as form;
-ghost use Rattle.film_turns.specs.Turns.{streamSize};
+ghost use Rattle.turns.specs.declared.Form.the-variants as form;
+ghost use Rattle.turns.specs.Turns.{streamSize};
 ghost use Rattle.old_film.specs.Finding.{partsOf, filmBy};
 ghost use Rattle.film_move.specs.FromOld.{plannedAs, packingOf, causeOf, FromOld};
 use crate::LONGEST;
@@ -21,15 +21,15 @@ use crate::putting::move_turns;
 use crate::putting::put_chunk;
 use crate::putting::refused;
 use codec::Codec;
-use film_plan::Packing;
-use film_turns::Form;
-use film_turns::Track;
-use film_turns::Turns;
+use lent::Written;
 use old_film::Found;
 use old_film::OldFilm;
 use refusal::Cause;
+use turns::Form;
+use turns::Track;
+use turns::Turns;
 use unmasking::Key;
-use written::Written;
+use write_plan::Packing;
 
 // Puts the end of each stream that there is, video first, as request 1 does.
 fn put_ends(out: &mut [u8], at: usize, audio: bool) -> usize
@@ -74,8 +74,8 @@ fn plan_turns(frame: usize, turns: Turns) -> Written
     requires { ⌜ (frame ≤ 0x40000000) × (turns .video ≤ 0x40000000) × (turns .audio ≤ 0x40000000) ⌝ }
     ensures { λ r. ⌜ r ≡ plannedAs (frame + (streamSize form.New (turns .video) + streamSize form.New (turns .audio))) (turns .marked) ⌝ }
 {
-    let video = film_turns::stream_size(Form::New, turns.video as u32);
-    let audio = film_turns::stream_size(Form::New, turns.audio as u32);
+    let video = turns::stream_size(Form::New, turns.video as u32);
+    let audio = turns::stream_size(Form::New, turns.audio as u32);
     let size = frame + (video + audio);
     if LONGEST < size {
         return refused(Cause::TooLong);
@@ -93,7 +93,7 @@ fn put_moved(out: &mut [u8], container: &[u8], film: OldFilm, packing: Packing, 
 {
     let name = part::part_at(container, old_film::NAME, film.name);
     write::write(name, b"", b"", packing, out);
-    let start = frame - new_film::ends_size(packing.audio);
+    let start = frame - moved_film::ends_size(packing.audio);
     let left = word::left_from(container, film.start);
     let chunks = part::part_at(container, film.start, left);
     let at = move_turns(out, start, chunks, Form::Old, Form::New, film.audio);
@@ -112,7 +112,7 @@ fn move_turned(
     ensures { λ r. ⌜ WritingOf (partsOf (now (container .entry)) .name) (partsOf (now (container .entry)) .read .video) (partsOf (now (container .entry)) .read .audio) packing (now (out .entry)) r (now (out .exit)) ⌝ }
 {
     let planned = plan_turns(frame, film.turns);
-    match written::written_in(out.len(), planned) {
+    match lent::written_in(out.len(), planned) {
         Written::Size(size) => {
             put_moved(out, container, film, packing, frame);
             Written::Size(size)
@@ -127,7 +127,7 @@ fn move_film(container: &[u8], film: OldFilm, packing: Packing, out: &mut [u8]) 
     ensures { λ r. ⌜ WritingOf (partsOf (now (container .entry)) .name) (partsOf (now (container .entry)) .read .video) (partsOf (now (container .entry)) .read .audio) packing (now (out .entry)) r (now (out .exit)) ⌝ }
 {
     let name = part::part_at(container, old_film::NAME, film.name);
-    match film_plan::plan(name, b"", b"", packing) {
+    match write_plan::plan(name, b"", b"", packing) {
         Written::Size(frame) => move_turned(container, film, packing, frame, out),
         Written::Refused(refusal) => Written::Refused(refusal),
     }
@@ -137,7 +137,7 @@ fn move_film(container: &[u8], film: OldFilm, packing: Packing, out: &mut [u8]) 
 fn cause_of(container: &[u8]) -> Cause
     ensures { λ r. ⌜ r ≡ causeOf (now (container .entry)) ⌝ }
 {
-    if old_audios::is_many(container) {
+    if old_film_many::is_many(container) {
         return Cause::ManyAudios;
     }
     Cause::Foreign

@@ -3,16 +3,16 @@ ghost use mathlib.Core.Path.{_≡_};
 ghost use Prim.Native.Nat.{_+_, _≤_};
 ghost use lib.ListN.{length};
 ghost use Rattle.laws.specs.Outputs.{Put};
-ghost use Rattle.film_blocks.specs.Blocks.{zeros};
-ghost use Rattle.film_plan.specs.Planning.{refusedBy};
-ghost use Rattle.film_turns.specs.Chunks.{chunkOf};
-ghost use Rattle.film_turns.specs.Turns.{nextOf};
+ghost use Rattle.write_blocks.specs.Blocks.{zeros};
+ghost use Rattle.write_plan.specs.Planning.{refusedBy};
+ghost use Rattle.turns.specs.Chunks.{chunkOf};
+ghost use Rattle.turns.specs.Turns.{nextOf};
 ghost use Rattle.film_move.specs.Moving.{movedFrom};
-use film_turns::Form;
-use film_turns::Track;
+use lent::Written;
 use refusal::Cause;
 use refusal::Refusal;
-use written::Written;
+use turns::Form;
+use turns::Track;
 
 // Puts bytes.
 pub(crate) fn put(out: &mut [u8], at: usize, bytes: &[u8]) -> usize
@@ -45,8 +45,8 @@ pub(crate) fn put_chunk(
     requires { ⌜ (at + length (chunkOf form track from (now payload)) ≤ length (now out)) × (length (now payload) ≤ 0x10000) ⌝ }
     ensures { λ r. ⌜ Put (chunkOf form track from (now (payload .entry))) (now (out .entry)) at (now (out .exit)) r ⌝ }
 {
-    let shape = film_turns::shape_of(form, track, from, payload.len() as u32);
-    let head = film_turns::head_by(shape);
+    let shape = turns::shape_of(form, track, from, payload.len() as u32);
+    let head = turns::head_by(shape);
     let at = put(out, at, &head);
     let at = put_zeros(out, at, shape.gap);
     let at = put(out, at, payload);
@@ -88,13 +88,13 @@ pub(crate) fn move_turns(
     let mut from = 0;
     let mut seen = true;
     let mut heard = audio;
-    while film_turns::either(seen, heard) {
-        let turn = film_turns::turn_in(&bytes[place..], old, from, seen, heard);
+    while turns::either(seen, heard) {
+        let turn = turns::turn_in(&bytes[place..], old, from, seen, heard);
         let v = turn.video;
         let a = turn.audio;
-        let video = film_turns::payload_of(&bytes[place..], old, v);
-        let middle = place + film_turns::chunk_size(old, v as u32);
-        let sound = film_turns::payload_of(&bytes[middle..], old, a);
+        let video = turns::payload_of(&bytes[place..], old, v);
+        let middle = place + turns::chunk_size(old, v as u32);
+        let sound = turns::payload_of(&bytes[middle..], old, a);
         let next = put_next(out, at, new, Track::Video, from, video);
         let end = put_next(out, next, new, Track::Audio(0), from, sound);
         at = end;

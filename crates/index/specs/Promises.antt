@@ -1,4 +1,4 @@
--- What an index promises. Each is proved under the same name in proofs/Promises.antt. What a jump by it finds stands in `jump`.
+-- What an index promises. Each is proved under the same name in proofs/Promises.antt. What a jump by it finds stands in `promises_seek`.
 use Prim.Native.Nat.{ℕ}
 use mathlib.Core.Path.{_≡_}
 use mathlib.Core.List.{List}

@@ -9,17 +9,17 @@ use lib.Seq.{drop-drop, drop-at}
 use Rattle.word.specs.Numbers.{be32}
 use Rattle.part.specs.Parts.{partAt}
 use Rattle.signature.specs.Signatures.{CRID, SFV, SFA, sameBytes, standsAt}
-use Rattle.film_blocks.specs.Blocks.{bytes32}
-use Rattle.film_blocks.proofs.NumberLaws.{whole32}
-use Rattle.film_turns.specs.declared.Track.{Track}
-use Rattle.film_turns.specs.declared.Track.the-variants.{Video, Audio}
-use Rattle.film_turns.specs.declared.Form.the-variants.{Old}
-use Rattle.film_turns.specs.Chunks.{lettersIn, shapeOf, headBy, chunkOf}
-use Rattle.film_turns.specs.Turns.{nextOf, turnsOf, chunksOf, readIn}
-use Rattle.film_turns.proofs.FrontLaws.{front, stands-front, front-self}
-use Rattle.film_turns.proofs.ReadLaws.{turns-none}
-use Rattle.film_turns.proofs.PayloadLaws.{part-between}
-use Rattle.film_turns.proofs.BackLaws.{NoChunk, Gives, other-letters, read-back}
+use Rattle.write_blocks.specs.Blocks.{bytes32}
+use Rattle.write_blocks.proofs.NumberLaws.{whole32}
+use Rattle.turns.specs.declared.Track.{Track}
+use Rattle.turns.specs.declared.Track.the-variants.{Video, Audio}
+use Rattle.turns.specs.declared.Form.the-variants.{Old}
+use Rattle.turns.specs.Chunks.{lettersIn, shapeOf, headBy, chunkOf}
+use Rattle.turns.specs.Turns.{nextOf, turnsOf, chunksOf, readIn}
+use Rattle.turns.proofs.FrontLaws.{front, stands-front, front-self}
+use Rattle.turns.proofs.ReadLaws.{turns-none}
+use Rattle.turns.proofs.PayloadLaws.{part-between}
+use Rattle.turns.proofs.BackLaws.{NoChunk, Gives, other-letters, read-back}
 use Rattle.old_film.specs.Blocks.{oldHead, tableBlock}
 use Rattle.old_film.specs.Tables.{oldNames, oldVideo, oldAudio}
 use Rattle.old_film.specs.Films.{audioBlocks, oldEnds, oldBytes}

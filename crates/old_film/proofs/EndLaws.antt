@@ -7,7 +7,7 @@ use native.Mathlib.Omega.{arith}
 use lib.ListN.{length, drop, length-append, length-drop, replicate}
 use lib.Dec.{eqb}
 use Rattle.signature.specs.Signatures.{standsAt}
-use Rattle.film_turns.proofs.FrontLaws.{stands-front, stands-then, front-fits}
+use Rattle.turns.proofs.FrontLaws.{stands-front, stands-then, front-fits}
 use Rattle.old_film.specs.Blocks.{oldHead, endBlock}
 use Rattle.old_film.specs.Films.{oldEnds}
 use Rattle.old_film.specs.Finding.{closesWith}

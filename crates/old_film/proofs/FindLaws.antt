@@ -12,14 +12,14 @@ use Rattle.laws.proofs.Side.{side}
 use Rattle.word.specs.Numbers.{be32}
 use Rattle.part.specs.Parts.{partAt}
 use Rattle.signature.specs.Signatures.{CRID, SFV, SFA, sameBytes, standsAt}
-use Rattle.film_blocks.specs.Blocks.{zeros, padding}
+use Rattle.write_blocks.specs.Blocks.{zeros, padding}
 use Rattle.utf8.specs.Utf8.{isUtf8}
-use Rattle.film_turns.specs.declared.Track.the-variants.{Video, Audio}
-use Rattle.film_turns.specs.declared.Form.the-variants.{Old}
-use Rattle.film_turns.specs.declared.Turns.{Turns}
-use Rattle.film_turns.specs.Turns.{nextOf, turnsOf, chunksOf, Read, readIn, turnsBy}
-use Rattle.film_turns.proofs.FrontLaws.{front, stands-front, front-self, stands-then, part-stands, same-front}
-use Rattle.film_turns.proofs.ReadLaws.{no-audio, read-whole}
+use Rattle.turns.specs.declared.Track.the-variants.{Video, Audio}
+use Rattle.turns.specs.declared.Form.the-variants.{Old}
+use Rattle.turns.specs.declared.Turns.{Turns}
+use Rattle.turns.specs.Turns.{nextOf, turnsOf, chunksOf, Read, readIn, turnsBy}
+use Rattle.turns.proofs.FrontLaws.{front, stands-front, front-self, stands-then, part-stands, same-front}
+use Rattle.turns.proofs.ReadLaws.{no-audio, read-whole}
 use Rattle.old_film.specs.declared.Found.the-variants.{Film, Foreign}
 use Rattle.old_film.specs.Blocks.{oldHead, tableBlock, endBlock}
 use Rattle.old_film.specs.Tables.{nameStart, oldNames, oldVideo, oldAudio}

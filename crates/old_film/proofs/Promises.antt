@@ -1,6 +1,6 @@
 -- The promises of specs/Promises.antt, each under its name. Assumes nothing.
 use mathlib.Core.Path.{refl}
-use Rattle.film_turns.proofs.FrontLaws.{same-self}
+use Rattle.turns.proofs.FrontLaws.{same-self}
 use Rattle.old_film.specs.Films.{oldBytes}
 use Rattle.old_film.specs.Finding.{audiosOf}
 use Rattle.old_film.specs.Promises as promised

@@ -3,9 +3,9 @@ use Prim.Native.Nat.{ℕ, zero, suc, _+_}
 use mathlib.Core.List.{List, [], _∷_, _++_, map}
 use lib.ListN.{length, drop}
 use Rattle.signature.specs.Signatures.{CRID, SFV, SFA}
-use Rattle.film_turns.specs.declared.Form.the-variants.{Old}
-use Rattle.film_turns.specs.declared.Track.the-variants.{Video, Audio}
-use Rattle.film_turns.specs.Turns.{nextOf}
+use Rattle.turns.specs.declared.Form.the-variants.{Old}
+use Rattle.turns.specs.declared.Track.the-variants.{Video, Audio}
+use Rattle.turns.specs.Turns.{nextOf}
 use Rattle.old_film.specs.Blocks.{tableBlock, endBlock}
 use Rattle.old_film.specs.Tables.{oldNames, oldVideo, oldAudio}
 

@@ -2,8 +2,8 @@
 use Prim.Native.Nat.{ℕ, _+_, _/_}
 use mathlib.Core.List.{List, [], _∷_, _++_}
 use lib.ListN.{length}
-use Rattle.film_blocks.specs.Blocks.{bytes16, bytes32}
-use Rattle.film_blocks.specs.Tables.{UTF}
+use Rattle.write_blocks.specs.Blocks.{bytes16, bytes32}
+use Rattle.write_blocks.specs.Tables.{UTF}
 
 -- a table's 32 bytes: its size, version 1, where rows, strings and data stand, its name at 0, columns, row size, and one row
 abbrev pub oldTable : ℕ → ℕ → ℕ → ℕ → ℕ → ℕ → List ℕ

@@ -9,12 +9,12 @@ ghost use lib.ListN.{length, drop};
 ghost use Rattle.word.specs.Numbers.{be32};
 ghost use Rattle.part.specs.Parts.{PartAt};
 ghost use Rattle.signature.specs.Signatures.{CRID, SFV, SFA, standsAt};
-ghost use Rattle.film_blocks.specs.Blocks.{zeros, padding};
+ghost use Rattle.write_blocks.specs.Blocks.{zeros, padding};
 ghost use Rattle.old_film.specs.Blocks.{oldHead, tableBlock, endBlock};
 ghost use Rattle.old_film.specs.Tables.{nameStart, oldVideo, oldAudio};
 ghost use Rattle.old_film.specs.Finding.{nameSize, audioCount, closesWith, standsAround, foundIn};
-use film_turns::Form;
-use film_turns::Turns;
+use turns::Form;
+use turns::Turns;
 
 // A film of the builder: the length of its name, whether there is audio, where its chunks start, and what they hold.
 pub struct OldFilm {
@@ -404,7 +404,7 @@ pub fn name_in(container: &[u8]) -> &[u8]
     ensures { λ r. ⌜ PartAt (container .entry) 96 (be32 (now (container .entry)) 4 - 89) r × (length (now r) < 2 ^ 32) ⌝ }
 {
     let size = word::read32(container, 4);
-    part::part_at(container, NAME, film_turns::less(size, MORE))
+    part::part_at(container, NAME, turns::less(size, MORE))
 }
 
 // The size of the first block, with a name of `len` bytes.
@@ -412,7 +412,7 @@ pub fn name_size(len: u32) -> usize
     ensures { λ r. ⌜ r ≡ nameSize len ⌝ }
 {
     let len = len as usize;
-    97 + len + film_blocks::padding(97 + len)
+    97 + len + write_blocks::padding(97 + len)
 }
 
 // How many audios there are, of which there is one or none.
@@ -443,7 +443,7 @@ fn name_stands(container: &[u8], len: u32) -> bool
     if signature::stands_at(&head, container, 0) {
         let none = [0u8; 33];
         let len = len as usize;
-        let count = 1 + film_blocks::padding(97 + len);
+        let count = 1 + write_blocks::padding(97 + len);
         return signature::stands_at(&none[..count], container, NAME + len);
     }
     false
@@ -504,7 +504,7 @@ pub fn find(container: &[u8]) -> Found
     let audio = audio_stands(container, first + VIDEO);
     let count = audio_count(audio);
     let start = first + VIDEO + count * AUDIO;
-    let turns = film_turns::read_turns(tail(container, start), Form::Old, audio);
+    let turns = turns::read_turns(tail(container, start), Form::Old, audio);
     if utf8::is_utf8(name) {
         let end = start + turns.end;
         if is_rebuilt(container, len as u32, turns.video, end, count) {

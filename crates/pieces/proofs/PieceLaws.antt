@@ -19,8 +19,8 @@ use Rattle.header.specs.declared.Header.{Header}
 use Rattle.header.specs.declared.HeaderAnswer.{HeaderAnswer}
 use Rattle.header.specs.declared.HeaderAnswer.the-variants.{Read, Refused}
 use Rattle.header.specs.Headers.{step1, headerOf}
-use Rattle.beginning.specs.Needs.{Open}
-use Rattle.beginning.proofs.Promises.{HeaderOfABeginning, RefusalOfABeginning}
+use Rattle.laws_prefix.specs.Needs.{Open}
+use Rattle.laws_prefix.proofs.Promises.{HeaderOfABeginning, RefusalOfABeginning}
 use Rattle.chunk.specs.declared.Chunk.{Chunk}
 use Rattle.chunk.specs.declared.ChunkStep.{ChunkStep}
 use Rattle.chunk.specs.declared.ChunkStep.the-variants as step

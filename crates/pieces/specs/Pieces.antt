@@ -14,7 +14,7 @@ use Rattle.reading.specs.declared.Applied.{Applied}
 use Rattle.header.specs.declared.HeaderAnswer.{HeaderAnswer}
 use Rattle.header.specs.declared.HeaderAnswer.the-variants.{Read, Refused}
 use Rattle.header.specs.Headers.{headerOf}
-use Rattle.beginning.specs.Needs.{laidAt}
+use Rattle.laws_prefix.specs.Needs.{laidAt}
 use Rattle.chunk.specs.declared.Chunk.{Chunk}
 use Rattle.chunk.specs.declared.Kind.{Kind}
 use Rattle.chunk.specs.declared.Kind.the-variants.{Video, Audio, Other, End}

@@ -1,7 +1,7 @@
 // A film read piece by piece: its header from a beginning, each chunk from a window. Ours, beyond the rules: a caller holds
 // no more of a film than that, and one payload.
 ghost use mathlib.Core.Path.{_≡_};
-ghost use Rattle.beginning.specs.Needs.{laidAt};
+ghost use Rattle.laws_prefix.specs.Needs.{laidAt};
 ghost use Rattle.pieces.specs.Pieces.{tooLong, isOpen, settledAs, headerIn, filmStep, maskOf};
 use chunk::ChunkStep;
 use chunk::Kind;

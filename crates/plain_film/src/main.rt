@@ -12,8 +12,8 @@ fn main() {
     let mut container = [0u8; LONGEST + 1];
     let size = io::read_full(STDIN_FILENO, &mut container);
     if LONGEST < size {
-        plain_line::refusal_line(TOO_LONG, 0).end();
+        plain_film_print::refusal_line(TOO_LONG, 0).end();
         return;
     }
-    plain_line::print(&container[..size]);
+    plain_film_print::print(&container[..size]);
 }

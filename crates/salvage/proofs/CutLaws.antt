@@ -20,9 +20,9 @@ use Rattle.chunk.proofs.CaseLaws.{over}
 use Rattle.chunk.proofs.FoundLaws.{found}
 use Rattle.walk.specs.Walks.{Walk, Ending, clean, stopped, walkFrom}
 use Rattle.walk.proofs.WalkLaws.{walk-over, walk-found, walk-refused}
-use Rattle.beginning.specs.Needs.{needOf}
-use Rattle.beginning.proofs.ChunkLaws.{refused-there}
-use Rattle.beginning.proofs.Promises.{ChunkOfABeginning, ChunkCutOff}
+use Rattle.laws_prefix.specs.Needs.{needOf}
+use Rattle.laws_prefix.proofs.ChunkLaws.{refused-there}
+use Rattle.laws_prefix.proofs.Promises.{ChunkOfABeginning, ChunkCutOff}
 use Rattle.salvage.specs.declared.Fit.the-variants.{UpTo}
 use Rattle.salvage.specs.Salvage.{Cut, upTo, nowhere, orElse, lastOf, startsOf}
 use Rattle.salvage.specs.Fits.{fitted, fitFrom}

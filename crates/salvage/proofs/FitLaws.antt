@@ -9,7 +9,7 @@ use Rattle.chunk.specs.declared.ChunkStep.the-variants.{Over, Found, Refused}
 use Rattle.chunk.specs.Chunks.{chunkAt}
 use Rattle.walk.specs.Walks.{walkFrom}
 use Rattle.walk.proofs.WalkLaws.{walk-over, walk-found, walk-refused}
-use Rattle.beginning.specs.Needs.{needOf}
+use Rattle.laws_prefix.specs.Needs.{needOf}
 use Rattle.salvage.specs.declared.Fit.the-variants.{Whole, UpTo}
 use Rattle.salvage.specs.Fits.{fitted, fitFrom, fitIn}
 

@@ -22,8 +22,8 @@ use Rattle.header.specs.declared.HeaderAnswer.the-variants as answer
 use Rattle.header.specs.Headers.{refused, step1, headerOf}
 use Rattle.film.specs.Films as films
 use Rattle.chunk.proofs.FoundLaws.{found}
-use Rattle.beginning.proofs.ChunkLaws.{refused-there}
-use Rattle.beginning.proofs.Promises.{HeaderOfABeginning}
+use Rattle.laws_prefix.proofs.ChunkLaws.{refused-there}
+use Rattle.laws_prefix.proofs.Promises.{HeaderOfABeginning}
 use Rattle.salvage.specs.declared.Salvaged.the-variants.{Kept}
 use Rattle.salvage.specs.declared.Fit.the-variants.{Whole, UpTo}
 use Rattle.salvage.specs.Salvage.{how, isFilm, accepted, Cut, upTo, nowhere, lastOf, startsOf, cutAs, endedAs, walkOf, salvageFrom}

@@ -13,7 +13,7 @@ use Rattle.chunk.specs.Chunks.{chunkAt}
 use Rattle.chunk.proofs.CaseLaws as cases
 use Rattle.chunk.proofs.FoundLaws.{found}
 use Rattle.walk.specs.Walks.{Walk, Ending, clean, stopped, goOn, walkFor, walkFrom}
-use Rattle.beginning.proofs.ChunkLaws.{refused-there}
+use Rattle.laws_prefix.proofs.ChunkLaws.{refused-there}
 use Rattle.salvage.specs.Salvage.{startsOf}
 use Rattle.salvage.proofs.SearchLaws.{Rising, none, more}
 

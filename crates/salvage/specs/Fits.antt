@@ -8,7 +8,7 @@ use Rattle.chunk.specs.declared.Chunk.{Chunk}
 use Rattle.walk.specs.Walks.{Walk, Ending, clean, stopped}
 use Rattle.header.specs.declared.HeaderAnswer.{HeaderAnswer}
 use Rattle.header.specs.declared.HeaderAnswer.the-variants as answer
-use Rattle.beginning.specs.Needs.{needOf}
+use Rattle.laws_prefix.specs.Needs.{needOf}
 use Rattle.salvage.specs.declared.Fit.{Fit}
 use Rattle.salvage.specs.declared.Fit.the-variants.{Whole, UpTo}
 use Rattle.salvage.specs.Salvage.{Cut, upTo, nowhere}

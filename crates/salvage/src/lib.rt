@@ -6,7 +6,7 @@ ghost use Rattle.walk.specs.Walks.{walkFrom};
 ghost use Rattle.header.specs.declared.HeaderAnswer.the-variants.{Read};
 ghost use Rattle.header.specs.Headers.{headerOf};
 ghost use Rattle.part.specs.Parts.{partAt};
-ghost use Rattle.beginning.specs.Needs.{needOf};
+ghost use Rattle.laws_prefix.specs.Needs.{needOf};
 ghost use Rattle.salvage.specs.Salvage.{how, cutAs, salvageFrom, salvageOf, keptIn, BeginningOf, salvageReply};
 ghost use Rattle.salvage.specs.Fits.{fitted, fitIn, ifRead};
 use chunk::Chunk;

@@ -15,11 +15,11 @@ use Rattle.list.specs.declared.Listed.the-variants.{Count}
 use Rattle.list.specs.declared.ListReply.{ListReply}
 use Rattle.list.specs.Listing.{listReply}
 use Rattle.list.proofs.ReplyLaws.{counted}
-use Rattle.shown.specs.Shown.{shownOf}
-use Rattle.shares.specs.Tenants.{numberIn, repeated, areBad}
-use Rattle.shares.specs.Shares.{lineOf, linesFrom, lineAt}
-use Rattle.shares.proofs.CountLaws.{perm-member}
-use Rattle.shares.proofs.RisingLaws.{Distinct, distinct, rising, perm-rising, RisingFrom, rises, lines-are}
+use Rattle.key_shown.specs.Shown.{shownOf}
+use Rattle.tenants.specs.Tenants.{numberIn, repeated, areBad}
+use Rattle.tenants.specs.Shares.{lineOf, linesFrom, lineAt}
+use Rattle.tenants.proofs.CountLaws.{perm-member}
+use Rattle.tenants.proofs.RisingLaws.{Distinct, distinct, rising, perm-rising, RisingFrom, rises, lines-are}
 use Rattle.statement.specs.Statements.{filmIn, refusedBy, statedIn, statedOf, copyOf, linesOf}
 use Rattle.statement.specs.Promises.{linesGiven, Answered}
 

@@ -6,7 +6,7 @@ use native.Mathlib.Omega.{arith}
 use native.Mathlib.Numerals.{add-one}
 use lib.ListN.{length, set}
 use lib.Seq.{sets, length-sets}
-use Rattle.shares.specs.Shares.{linesFrom}
+use Rattle.tenants.specs.Shares.{linesFrom}
 
 -- so many lines are left to be put
 pub record Putting (line : ℕ → List ℕ) (n : ℕ) (start : List (List ℕ)) (rank : ℕ) (lines : List (List ℕ)) : Type 0 where

@@ -21,15 +21,15 @@ use Rattle.walk.specs.Walks.{videoSize, audioSize}
 use Rattle.list.specs.declared.Listed.{Listed}
 use Rattle.list.specs.declared.Listed.the-variants.{Count, Refused}
 use Rattle.list.specs.Listing.{listReply, filledBy}
-use Rattle.shown.specs.Shown.{shownOf}
-use Rattle.shown.proofs.Promises.{SameStreamsExactlyWhenNotTold}
-use Rattle.shares.specs.Tenants.{numberIn, keyIn, repeated, areBad}
-use Rattle.shares.specs.Shares.{shareOf, groupOf, lineOf}
-use Rattle.shares.proofs.CountLaws.{perm-length}
-use Rattle.shares.proofs.RisingLaws.{distinct, rising, perm-rising, rising-rises, one-tenant}
-use Rattle.shares.proofs.GroupLaws.{one-group, of-one-group}
-use Rattle.shares.proofs.SumLaws.{total, group-total, shares-near, shares-fall}
-use Rattle.shares.proofs.OrderLaws.{perm-bad, perm-lines}
+use Rattle.key_shown.specs.Shown.{shownOf}
+use Rattle.key_shown.proofs.Promises.{SameStreamsExactlyWhenNotTold}
+use Rattle.tenants.specs.Tenants.{numberIn, keyIn, repeated, areBad}
+use Rattle.tenants.specs.Shares.{shareOf, groupOf, lineOf}
+use Rattle.tenants.proofs.CountLaws.{perm-length}
+use Rattle.tenants.proofs.RisingLaws.{distinct, rising, perm-rising, rising-rises, one-tenant}
+use Rattle.tenants.proofs.GroupLaws.{one-group, of-one-group}
+use Rattle.tenants.proofs.SumLaws.{total, group-total, shares-near, shares-fall}
+use Rattle.tenants.proofs.OrderLaws.{perm-bad, perm-lines}
 use Rattle.statement.specs.Statements.{filmIn, refusedBy, statedIn, statedOf, copyOf, linesOf}
 use Rattle.statement.specs.Promises as promised
 use Rattle.statement.specs.Promises.{tenantIn, groupIn, shareIn, linesGiven, borneBy, Unpacked}

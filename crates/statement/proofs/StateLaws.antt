@@ -21,9 +21,9 @@ use Rattle.extract.proofs.AnswerLaws.{its-film, its-sizes}
 use Rattle.list.specs.declared.Listed.the-variants.{Count, Refused}
 use Rattle.list.specs.declared.ListReply.{ListReply}
 use Rattle.list.specs.Listing.{listReply}
-use Rattle.shown.specs.Shown.{shownBy}
-use Rattle.shares.specs.Tenants.{areBad}
-use Rattle.shares.specs.Shares.{lineAt, linesFrom}
+use Rattle.key_shown.specs.Shown.{shownBy}
+use Rattle.tenants.specs.Tenants.{areBad}
+use Rattle.tenants.specs.Shares.{lineAt, linesFrom}
 use Rattle.statement.specs.Statements.{filmIn, refusedBy, Stated}
 
 -- which film a survey that refuses is of

@@ -15,7 +15,7 @@ use Rattle.extract.specs.declared.Contents.{Contents}
 use Rattle.extract.specs.declared.Extracted.the-variants as extracted
 use Rattle.extract.specs.Extraction.{Extraction}
 use Rattle.list.specs.declared.ListReply.{ListReply}
-use Rattle.shares.specs.Tenants.{numberIn, keyIn}
+use Rattle.tenants.specs.Tenants.{numberIn, keyIn}
 use Rattle.statement.specs.Statements.{Stated}
 
 -- ---- what stands in a line, and which lines were given: as many as the reply says

@@ -1,4 +1,4 @@
--- Request 13: the statement of a film. Its groups and shares stand in `shares`, what a film shows of a key in `shown`.
+-- Request 13: the statement of a film. Its groups and shares stand in `tenants`, what a film shows of a key in `key_shown`.
 use Prim.Native.Nat.{ℕ, _+_}
 use mathlib.Core.Path.{_≡_}
 use mathlib.Core.Bool.{cond}
@@ -15,9 +15,9 @@ use Rattle.list.specs.declared.Listed.{Listed}
 use Rattle.list.specs.declared.Listed.the-variants.{Refused}
 use Rattle.list.specs.declared.ListReply.{ListReply}
 use Rattle.list.specs.Listing.{countedIn, listReply, filledBy}
-use Rattle.shown.specs.Shown.{shownOf}
-use Rattle.shares.specs.Tenants.{areBad}
-use Rattle.shares.specs.Shares.{lineAt, linesFrom}
+use Rattle.key_shown.specs.Shown.{shownOf}
+use Rattle.tenants.specs.Tenants.{areBad}
+use Rattle.tenants.specs.Shares.{lineAt, linesFrom}
 
 -- "audio chosen"
 abbrev pub filmIn : List ℕ → Film

@@ -6,7 +6,7 @@ ghost use Prim.Native.Nat.{_≤_};
 ghost use lib.ListN.{length};
 ghost use lib.Seq.{sets};
 ghost use Rattle.list.specs.Listing.{listReply};
-ghost use Rattle.shares.specs.Shares.{lineAt, linesFrom};
+ghost use Rattle.tenants.specs.Shares.{lineAt, linesFrom};
 ghost use Rattle.statement.specs.Statements.{refusedBy, Stated};
 use film::Surveyed;
 use list::ListReply;
@@ -32,7 +32,7 @@ fn put_lines(tenants: &[[u64; 2]], bytes: usize, size: usize, lines: &mut [[u64;
 {
     let mut rank = 0;
     while rank < tenants.len() {
-        let line = shares::line_at(tenants, bytes, size, rank);
+        let line = tenants::line_at(tenants, bytes, size, rank);
         lines[rank] = line;
         rank += 1;
     }
@@ -46,7 +46,7 @@ pub fn state(container: &[u8], tenants: &[[u64; 2]], lines: &mut [[u64; 3]]) -> 
     if LONGEST < container.len() {
         return refused(Cause::TooLong);
     }
-    if shares::are_bad(tenants) {
+    if tenants::are_bad(tenants) {
         return refused(Cause::BadTenants);
     }
     let count = tenants.len();
@@ -63,7 +63,7 @@ pub fn state(container: &[u8], tenants: &[[u64; 2]], lines: &mut [[u64; 3]]) -> 
             }
             let codec = header.audio_codec;
             let adx = unmasking::is_adx(codec);
-            let bytes = shown::shown_from(container, header.start, applied, adx);
+            let bytes = key_shown::shown_from(container, header.start, applied, adx);
             put_lines(tenants, bytes, video + audio, lines);
             list::list_reply(Listed::Count(count))
         }

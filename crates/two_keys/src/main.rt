@@ -21,11 +21,11 @@ fn read_argument(number: usize, word: &mut [u8]) -> usize
 fn main() {
     let count = os::arg_count();
     if count < 3 {
-        key_answer::print_usage();
+        two_keys_print::print_usage();
         return;
     }
     if 4 < count {
-        key_answer::print_usage();
+        two_keys_print::print_usage();
         return;
     }
     let mut first = [0u8; ROOM];
@@ -33,12 +33,12 @@ fn main() {
     let mut second = [0u8; ROOM];
     let second_length = read_argument(2, &mut second);
     if count == 3 {
-        key_answer::print_answer(&first[..first_length], &second[..second_length]);
+        two_keys_print::print_answer(&first[..first_length], &second[..second_length]);
         return;
     }
     let mut third = [0u8; ROOM];
     let third_length = read_argument(3, &mut third);
-    key_answer::print_answer_on_clip(
+    two_keys_print::print_answer_on_clip(
         &first[..first_length],
         &second[..second_length],
         &third[..third_length],

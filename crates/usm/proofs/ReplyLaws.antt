@@ -2,9 +2,9 @@
 use mathlib.Core.Path.{_≡_, ap, _∙_}
 use mathlib.Core.List.{List}
 use Prim.Native.Nat.{ℕ}
-use Rattle.written.specs.declared.Written.{Written}
-use Rattle.written.specs.declared.SizeReply.{SizeReply}
-use Rattle.written.specs.Written.{leftBy, sizeReply}
+use Rattle.lent.specs.declared.Written.{Written}
+use Rattle.lent.specs.declared.SizeReply.{SizeReply}
+use Rattle.lent.specs.Written.{leftBy, sizeReply}
 use Rattle.usm.specs.Writes.{WrittenAs}
 
 pub replied : (planned answer : Written) (bytes out out′ : List ℕ) (r : SizeReply) → (answer ≡ planned) × (out′ ≡ leftBy answer out bytes) → r ≡ sizeReply answer

@@ -4,10 +4,10 @@ use Prim.Native.Nat.{ℕ}
 use lib.ListN.{length}
 use Rattle.codec.specs.declared.Codec.{Codec}
 use Rattle.codec.specs.Numbers.{codecBy}
-use Rattle.written.specs.declared.SizeReply.{SizeReply}
-use Rattle.written.specs.Written.{writtenIn}
+use Rattle.lent.specs.declared.SizeReply.{SizeReply}
+use Rattle.lent.specs.Written.{writtenIn}
 use Rattle.old_film.specs.Finding as old
-use Rattle.new_film.specs.Finding as new
+use Rattle.moved_film.specs.Finding as new
 use Rattle.film_move.specs.FromOld.{newBytes, fromOld}
 use Rattle.film_move.specs.ToOld.{oldOf, toOld}
 use Rattle.usm.specs.declared.moving.CodecBytes.{CodecBytes}

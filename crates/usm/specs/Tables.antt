@@ -4,8 +4,8 @@ use mathlib.Core.List.{List}
 use lib.ListN.{length}
 use Rattle.reading.specs.declared.TableMode.{TableMode}
 use Rattle.table.specs.Tables.{tableAt}
-use Rattle.written.specs.declared.SizeReply.{SizeReply}
-use Rattle.written.specs.Written.{writtenIn}
+use Rattle.lent.specs.declared.SizeReply.{SizeReply}
+use Rattle.lent.specs.Written.{writtenIn}
 use Rattle.csv_text.specs.Written.{csvOf}
 use Rattle.csv.specs.Writing.{textsAt, toWrite}
 use Rattle.usm.specs.Writes.{WrittenAs}

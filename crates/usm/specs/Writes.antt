@@ -7,12 +7,12 @@ use lib.ListN.{length}
 use lib.Dec.{eqb}
 use Rattle.codec.specs.Numbers.{codecBy}
 use Rattle.unmasking.specs.Unmasking.{keyBy}
-use Rattle.written.specs.declared.Written.{Written}
-use Rattle.written.specs.declared.SizeReply.{SizeReply}
-use Rattle.written.specs.Written.{writtenIn, leftBy, sizeReply}
-use Rattle.film_plan.specs.declared.Packing.{Packing}
-use Rattle.film_plan.specs.Films.{audioIn, filmBytes}
-use Rattle.film_plan.specs.Planning.{plannedOf}
+use Rattle.lent.specs.declared.Written.{Written}
+use Rattle.lent.specs.declared.SizeReply.{SizeReply}
+use Rattle.lent.specs.Written.{writtenIn, leftBy, sizeReply}
+use Rattle.write_plan.specs.declared.Packing.{Packing}
+use Rattle.write_plan.specs.Films.{audioIn, filmBytes}
+use Rattle.write_plan.specs.Planning.{plannedOf}
 use Rattle.usm.specs.declared.writing.PackingBytes.{PackingBytes}
 
 -- how a film is packed: 0 for `has_audio` means that there is none

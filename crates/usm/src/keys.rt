@@ -2,9 +2,9 @@
 ghost use mathlib.Core.Path.{_≡_};
 ghost use Rattle.reading.specs.Choices.{readingBy};
 ghost use Rattle.film.specs.Films.{filmOf};
-ghost use Rattle.shown.specs.KeyBits.{keyBitsIn, keyBitsReply};
+ghost use Rattle.key_shown.specs.KeyBits.{keyBitsIn, keyBitsReply};
+use key_shown::KeyBitsReply;
 use reading::ReadingBytes;
-use shown::KeyBitsReply;
 
 // The bits of a key that a film shows: its two streams are the same under two keys exactly when these agree in them.
 #[no_mangle]
@@ -12,5 +12,5 @@ pub extern "C" fn usm_key_bits(container: &[u8], reading: ReadingBytes) -> KeyBi
     ensures { λ r. ⌜ r ≡ keyBitsReply (keyBitsIn (filmOf (now (container .entry)) (readingBy reading))) ⌝ }
 {
     let asked = reading::reading_by(reading);
-    shown::key_bits_reply(shown::key_bits(container, asked))
+    key_shown::key_bits_reply(key_shown::key_bits(container, asked))
 }

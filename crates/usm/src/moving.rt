@@ -1,6 +1,6 @@
 // A film moved for C between the old builder's container and request 1's. Rules O.
 ghost use Rattle.usm.specs.Moves.{FromOldFor, ToOldFor};
-use written::SizeReply;
+use lent::SizeReply;
 
 // The codecs of a film, as C gives them. What is given by 0 is not there, and by every other number it is.
 #[repr(C)]
@@ -18,7 +18,7 @@ pub extern "C" fn usm_from_old(container: &[u8], codecs: CodecBytes, out: &mut [
 {
     let video = codec::codec_by(codecs.has_video_codec, codecs.video_codec);
     let audio = codec::codec_by(codecs.has_audio_codec, codecs.audio_codec);
-    written::size_reply(film_move::from_old(container, video, audio, out))
+    lent::size_reply(film_move::from_old(container, video, audio, out))
 }
 
 // Moves a film back to the old builder's container, and returns its size. Bytes past it stay; a refusal leaves the output as it was.
@@ -26,5 +26,5 @@ pub extern "C" fn usm_from_old(container: &[u8], codecs: CodecBytes, out: &mut [
 pub extern "C" fn usm_to_old(container: &[u8], out: &mut [u8]) -> SizeReply
     ensures { λ r. ⌜ ToOldFor (now (container .entry)) (now (out .entry)) r (now (out .exit)) ⌝ }
 {
-    written::size_reply(film_move::to_old(container, out))
+    lent::size_reply(film_move::to_old(container, out))
 }

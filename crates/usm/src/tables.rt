@@ -1,8 +1,8 @@
 // A table written as CSV for C. Rules V.
 ghost use Rattle.reading.specs.Choices.{modeBy};
 ghost use Rattle.usm.specs.Tables.{CsvFor};
+use lent::SizeReply;
 use reading::ReadingBytes;
-use written::SizeReply;
 
 // Writes the table at a place of a slice as CSV into an output, and returns its size. Bytes past it stay; a refusal leaves the output as it was.
 #[no_mangle]
@@ -15,5 +15,5 @@ pub extern "C" fn usm_csv(
     ensures { λ r. ⌜ CsvFor (now (bytes .entry)) place (modeBy (reading .tables)) (now (out .entry)) r (now (out .exit)) ⌝ }
 {
     let mode = reading::mode_by(reading.tables);
-    written::size_reply(csv::write_csv(bytes, place, mode, out))
+    lent::size_reply(csv::write_csv(bytes, place, mode, out))
 }

@@ -2,8 +2,8 @@
 ghost use mathlib.Core.Path.{_≡_};
 ghost use Rattle.usm.specs.Writes.{packingBy, WrittenFor};
 use crate::KeyBytes;
-use film_plan::Packing;
-use written::SizeReply;
+use lent::SizeReply;
+use write_plan::Packing;
 
 // How a film is packed, as C gives it. What is had or given by 0 is not there, and by every other number it is.
 #[repr(C)]
@@ -41,5 +41,5 @@ pub extern "C" fn usm_write(
     ensures { λ r. ⌜ WrittenFor (now (name .entry)) (now (video .entry)) (now (audio .entry)) (packingBy packing) (now (out .entry)) r (now (out .exit)) ⌝ }
 {
     let asked = packing_by(packing);
-    written::size_reply(write::write(name, video, audio, asked, out))
+    lent::size_reply(write::write(name, video, audio, asked, out))
 }

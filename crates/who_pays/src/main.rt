@@ -2,9 +2,9 @@
 ghost use Rattle.io.specs.Counts.{Counts};
 ghost use Prim.Native.Nat.{_≤_};
 ghost use lib.ListN.{length};
-use digits::Typed;
 use libc::STDIN_FILENO;
 use libc::STDOUT_FILENO;
+use typed::Typed;
 
 // A word of more bytes is no tenant.
 const WORD: usize = 64;
@@ -13,7 +13,7 @@ const WORD: usize = 64;
 const TENANTS: usize = 17;
 
 // One byte more than a film may have here, so that a longer one is seen to be longer.
-const ROOM: usize = telling::LONGEST + 1;
+const ROOM: usize = statement_print::LONGEST + 1;
 
 // A tenant as typed.
 enum Tenant {
@@ -49,10 +49,10 @@ fn colon(word: &[u8]) -> usize
 
 // A tenant from its number and its key, both as typed.
 fn tenant_by(number: &[u8], key: &[u8]) -> Tenant {
-    let Typed::Number(n) = digits::read_tenant(number) else {
+    let Typed::Number(n) = typed::read_tenant(number) else {
         return Tenant::None;
     };
-    let Typed::Number(k) = digits::read_key(key) else {
+    let Typed::Number(k) = typed::read_key(key) else {
         return Tenant::None;
     };
     Tenant::Of { number: n, key: k }
@@ -111,10 +111,10 @@ fn tell(tenants: &[[u64; 2]], count: usize) {
     let mut container = [0u8; ROOM];
     let size = io::read_full(STDIN_FILENO, &mut container);
     if tenants.len() < count {
-        telling::tell(&container[..size], tenants);
+        statement_print::tell(&container[..size], tenants);
         return;
     }
-    telling::tell(&container[..size], &tenants[..count]);
+    statement_print::tell(&container[..size], &tenants[..count]);
 }
 
 // Prints the statement for the tenants that the arguments name, or how the program is called.

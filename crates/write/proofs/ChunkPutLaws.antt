@@ -5,11 +5,11 @@ use mathlib.Core.List.{List, []}
 use native.Mathlib.Omega.{arith}
 use lib.ListN.{length, take, drop, length-take, length-drop, drop-of-length-le}
 use Rattle.unmasking.specs.declared.Unmasking.{Unmasking}
-use Rattle.film_blocks.specs.Blocks.{blockOf}
-use Rattle.film_plan.specs.declared.Stream.{Stream}
-use Rattle.film_plan.specs.Payloads.{storedAs}
-use Rattle.film_plan.specs.Films.{lettersOf, bytesOf, nextChunk}
-use Rattle.film_plan.proofs.TurnLaws.{next-bytes, next-none}
+use Rattle.write_blocks.specs.Blocks.{blockOf}
+use Rattle.write_plan.specs.declared.Stream.{Stream}
+use Rattle.write_plan.specs.Payloads.{storedAs}
+use Rattle.write_plan.specs.Films.{lettersOf, bytesOf, nextChunk}
+use Rattle.write_plan.proofs.TurnLaws.{next-bytes, next-none}
 
 module _ (by : Unmasking) (stream : Stream) (bytes : List ℕ) (from : ℕ) where
   pub no-next : length bytes ≤ from → [] ≡ bytesOf (nextChunk by stream (drop from bytes))

@@ -8,10 +8,10 @@ use lib.ListN.{length, length-append}
 use Rattle.laws.specs.Outputs.{Put}
 use Rattle.laws.proofs.PutLaws.{all-left, less-left, left-fits, put-then, put-as}
 use Rattle.signature.specs.Signatures.{SFV, SFA}
-use Rattle.film_blocks.specs.Blocks.{blockOf}
-use Rattle.film_plan.specs.declared.Stream.{Stream}
-use Rattle.film_plan.specs.declared.Stream.the-variants.{Video, Audio}
-use Rattle.film_plan.specs.Films.{bytesOf, inEach}
+use Rattle.write_blocks.specs.Blocks.{blockOf}
+use Rattle.write_plan.specs.declared.Stream.{Stream}
+use Rattle.write_plan.specs.declared.Stream.the-variants.{Video, Audio}
+use Rattle.write_plan.specs.Films.{bytesOf, inEach}
 
 module _ (inside : Stream → List ℕ) where
   abbrev first : List ℕ

@@ -10,14 +10,14 @@ use Rattle.laws.proofs.PutLaws.{Left, all-left, less-left, left-fits, next-fits
 use Rattle.signature.specs.Signatures.{CRID, headerEnd, metadataEnd}
 use Rattle.unmasking.specs.declared.Unmasking.{Unmasking}
 use Rattle.unmasking.specs.Unmasking.{unmaskingOf}
-use Rattle.film_blocks.specs.Blocks.{blockOf}
-use Rattle.film_blocks.specs.Tables.{markerOf, emptyTable, nameTable}
-use Rattle.film_plan.specs.declared.Stream.{Stream}
-use Rattle.film_plan.specs.declared.Stream.the-variants.{Video, Audio}
-use Rattle.film_plan.specs.declared.Packing.{Packing}
-use Rattle.film_plan.specs.Films.{bytesOf, inEach, codecIn, headerBlocks, nextChunk, chunkBlocks, endBlocks, filmBytes}
-use Rattle.film_plan.proofs.BlockLaws.{header-bytes}
-use Rattle.film_plan.proofs.TurnLaws.{turns-bytes, turns-over}
+use Rattle.write_blocks.specs.Blocks.{blockOf}
+use Rattle.write_blocks.specs.Tables.{markerOf, emptyTable, nameTable}
+use Rattle.write_plan.specs.declared.Stream.{Stream}
+use Rattle.write_plan.specs.declared.Stream.the-variants.{Video, Audio}
+use Rattle.write_plan.specs.declared.Packing.{Packing}
+use Rattle.write_plan.specs.Films.{bytesOf, inEach, codecIn, headerBlocks, nextChunk, chunkBlocks, endBlocks, filmBytes}
+use Rattle.write_plan.proofs.BlockLaws.{header-bytes}
+use Rattle.write_plan.proofs.TurnLaws.{turns-bytes, turns-over}
 
 -- ---- the header
 

@@ -10,9 +10,9 @@ use Rattle.signature.specs.Signatures.{CRID}
 use Rattle.codec.specs.declared.Codec.{Codec}
 use Rattle.codec.specs.declared.Codec.the-variants.{Value, Absent}
 use Rattle.block.specs.Blocks.{filename}
-use Rattle.film_blocks.specs.Blocks.{bytes32, blockOf}
-use Rattle.film_blocks.specs.Tables.{emptyTable, tableHead, tableWith, nameTable, codecTable}
-use Rattle.film_plan.proofs.LengthLaws.{table-length}
+use Rattle.write_blocks.specs.Blocks.{bytes32, blockOf}
+use Rattle.write_blocks.specs.Tables.{emptyTable, tableHead, tableWith, nameTable, codecTable}
+use Rattle.write_plan.proofs.LengthLaws.{table-length}
 
 module _ (tag : ℕ) (column cell blob out : List ℕ) (at : ℕ) (room : at + length (tableWith tag column cell blob) ≤ length out) where
   pub head-fits : at + 37 ≤ length out

@@ -3,11 +3,11 @@ use Prim.Native.Nat.{ℕ}
 use mathlib.Core.Path.{_≡_}
 use mathlib.Core.List.{List}
 use lib.ListN.{length}
-use Rattle.written.specs.declared.Written.{Written}
-use Rattle.written.specs.Written.{writtenIn, leftBy}
-use Rattle.film_plan.specs.declared.Packing.{Packing}
-use Rattle.film_plan.specs.Films.{audioIn, filmBytes}
-use Rattle.film_plan.specs.Planning.{plannedOf}
+use Rattle.lent.specs.declared.Written.{Written}
+use Rattle.lent.specs.Written.{writtenIn, leftBy}
+use Rattle.write_plan.specs.declared.Packing.{Packing}
+use Rattle.write_plan.specs.Films.{audioIn, filmBytes}
+use Rattle.write_plan.specs.Planning.{plannedOf}
 
 -- the answer to a writing, 23, 11 and 15 as planned and then 16, and the output after it; `audio` is what there is of it
 abbrev pub WritingOf : List ℕ → List ℕ → List ℕ → Packing → List ℕ → Written → List ℕ → Type 0

@@ -6,16 +6,16 @@ ghost use Prim.Native.Nat.{_+_, _≤_, _<_, _^_, max};
 ghost use lib.ListN.{length, drop};
 ghost use lib.Seq.{sets};
 ghost use Rattle.laws.specs.Outputs.{Put};
-ghost use Rattle.film_blocks.specs.Blocks.{zeros, padding, headOf, blockOf};
-ghost use Rattle.film_blocks.specs.Tables.{tableWith, codecTable};
-ghost use Rattle.film_plan.specs.Payloads.{storedAs};
-ghost use Rattle.film_plan.specs.Films.{lettersOf, bytesOf, inEach, codecIn, headerBlocks, nextChunk, chunkBlocks, filmBytes};
+ghost use Rattle.write_blocks.specs.Blocks.{zeros, padding, headOf, blockOf};
+ghost use Rattle.write_blocks.specs.Tables.{tableWith, codecTable};
+ghost use Rattle.write_plan.specs.Payloads.{storedAs};
+ghost use Rattle.write_plan.specs.Films.{lettersOf, bytesOf, inEach, codecIn, headerBlocks, nextChunk, chunkBlocks, filmBytes};
 ghost use Rattle.write.specs.Writing.{Writing};
 use codec::Codec;
-use film_plan::Packing;
-use film_plan::Stream;
+use lent::Written;
 use unmasking::Unmasking;
-use written::Written;
+use write_plan::Packing;
+use write_plan::Stream;
 
 // The type of a name's column: data, stored in the row.
 const NAME: u8 = 0x5B;
@@ -43,7 +43,7 @@ fn put_padding(out: &mut [u8], at: usize, len: usize) -> usize
     requires { ⌜ at + padding len ≤ length (now out) ⌝ }
     ensures { λ r. ⌜ Put (zeros (padding len)) (now (out .entry)) at (now (out .exit)) r ⌝ }
 {
-    let count = film_blocks::padding(len);
+    let count = write_blocks::padding(len);
     let none = [0u8; 32];
     put(out, at, &none[..count])
 }
@@ -53,7 +53,7 @@ fn put_head(out: &mut [u8], at: usize, letters: usize, len: usize) -> usize
     requires { ⌜ (at + 0x20 ≤ length (now out)) × (len < 2 ^ 32) ⌝ }
     ensures { λ r. ⌜ Put (headOf letters len) (now (out .entry)) at (now (out .exit)) r ⌝ }
 {
-    let head = film_blocks::block_head(letters, len as u32);
+    let head = write_blocks::block_head(letters, len as u32);
     put(out, at, &head)
 }
 
@@ -72,7 +72,7 @@ fn put_table(out: &mut [u8], at: usize, tag: u8, column: &[u8], cell: &[u8], blo
     requires { ⌜ (at + length (tableWith tag (now column) (now cell) (now blob)) ≤ length (now out)) × (length (now column) < 2 ^ 16) × (length (now cell) < 2 ^ 16) × (length (now blob) < 2 ^ 31) ⌝ }
     ensures { λ r. ⌜ Put (tableWith tag (now (column .entry)) (now (cell .entry)) (now (blob .entry))) (now (out .entry)) at (now (out .exit)) r ⌝ }
 {
-    let head = film_blocks::table_head(
+    let head = write_blocks::table_head(
         tag,
         cell.len() as u32,
         column.len() as u32,
@@ -113,7 +113,7 @@ fn put_codec(out: &mut [u8], at: usize, letters: usize, column: &[u8], codec: Co
 {
     match codec {
         Codec::Value(number) => {
-            let cell = film_blocks::bytes32(number);
+            let cell = write_blocks::bytes32(number);
             put_table_block(out, at, letters, CODEC, column, &cell, b"")
         }
         Codec::Absent => put_block(
@@ -157,7 +157,7 @@ fn put_header(out: &mut [u8], name: &[u8], packing: Packing) -> usize
     ensures { λ r. ⌜ Put (bytesOf (headerBlocks (now (name .entry)) packing)) (now (out .entry)) 0 (now (out .exit)) r ⌝ }
 {
     let audio = packing.audio;
-    let cell = film_blocks::name_cell(name.len() as u32);
+    let cell = write_blocks::name_cell(name.len() as u32);
     let at = put_table_block(out, 0, signature::CRID, NAME, b"filename", &cell, name);
     let at = put_codecs(out, at, packing);
     let at = put_each(
@@ -263,7 +263,7 @@ fn put_next(
         out,
         at,
         stream,
-        film_plan::payload_from(bytes, from),
+        write_plan::payload_from(bytes, from),
         unmasking,
     )
 }
@@ -296,7 +296,7 @@ fn put_chunks(
         let middle = put_next(out, at, Stream::Video, video, from, unmasking);
         let end = put_next(out, middle, Stream::Audio, audio, from, unmasking);
         at = end;
-        from += film_plan::PAYLOAD;
+        from += write_plan::PAYLOAD;
     }
     at
 }
@@ -326,10 +326,10 @@ fn put_film(out: &mut [u8], name: &[u8], video: &[u8], audio: &[u8], packing: Pa
 pub fn write(name: &[u8], video: &[u8], audio: &[u8], packing: Packing, out: &mut [u8]) -> Written
     ensures { λ r. ⌜ Writing (now (name .entry)) (now (video .entry)) (now (audio .entry)) packing (now (out .entry)) r (now (out .exit)) ⌝ }
 {
-    let planned = film_plan::plan(name, video, audio, packing);
-    match written::written_in(out.len(), planned) {
+    let planned = write_plan::plan(name, video, audio, packing);
+    match lent::written_in(out.len(), planned) {
         Written::Size(size) => {
-            let audio = film_plan::audio_in(packing, audio);
+            let audio = write_plan::audio_in(packing, audio);
             put_film(out, name, video, audio, packing);
             Written::Size(size)
         }

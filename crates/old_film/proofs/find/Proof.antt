@@ -6,8 +6,8 @@ use mathlib.Core.Bool.{Bool, true, false, _&&_}
 use native.Mathlib.Omega.{arith}
 use lib.ListN.{length, length-drop}
 use Rattle.signature.specs.Signatures.{SFA, standsAt}
-use Rattle.film_turns.specs.declared.Form.the-variants.{Old}
-use Rattle.film_turns.specs.Turns.{readIn, turnsBy}
+use Rattle.turns.specs.declared.Form.the-variants.{Old}
+use Rattle.turns.specs.Turns.{readIn, turnsBy}
 use Rattle.old_film.specs.Blocks.{tableBlock}
 use Rattle.old_film.specs.Tables.{oldAudio}
 use Rattle.old_film.proofs.FindLaws.{count-is, count-fits, found, not-utf8}

@@ -3,7 +3,7 @@ use Prim.Native.Nat.{_+_}
 use mathlib.Core.Path.{sym, ap, _∙_}
 use native.Mathlib.Omega.{arith}
 use lib.ListN.{length, length-replicate}
-use Rattle.film_turns.proofs.ChunkLaws.{some-of}
+use Rattle.turns.proofs.ChunkLaws.{some-of}
 use borrow.Author.Needs.{needs}
 use Rattle.old_film.proofs.name_stands.Statement.{statement}
 use Rattle.old_film.proofs.name_stands.Tie as tie

@@ -3,7 +3,7 @@ use Prim.Native.Nat.{_≤_}
 use mathlib.Core.Path.{sym}
 use native.Mathlib.Omega.{arith}
 use lib.ListN.{length, drop-of-length-le}
-use Rattle.film_turns.proofs.TurnLaws.{from-place}
+use Rattle.turns.proofs.TurnLaws.{from-place}
 use borrow.Author.Needs.{needs}
 use Rattle.old_film.proofs.tail.Statement.{statement}
 use Rattle.old_film.proofs.tail.Tie as tie

@@ -5,8 +5,8 @@ use native.Mathlib.Omega.{arith}
 use lib.ListN.{length}
 use denote.Ref.{now}
 use Rattle.table.proofs.TableLaws.{from-place}
-use Rattle.beginning.specs.Needs.{isLaid}
-use Rattle.beginning.proofs.BlockLaws.{unlaid}
+use Rattle.laws_prefix.specs.Needs.{isLaid}
+use Rattle.laws_prefix.proofs.BlockLaws.{unlaid}
 use borrow.Author.Needs.{needs}
 use Rattle.pieces.proofs.is_laid.Statement.{statement}
 use Rattle.pieces.proofs.is_laid.Tie as tie

@@ -3,7 +3,7 @@ use Prim.Native.Nat.{_-_}
 use native.Mathlib.Omega.{arith}
 use borrow.Author.Needs.{needs}
 use lib.ListN.{length}
-use Rattle.shares.specs.Shares.{lineAt}
+use Rattle.tenants.specs.Shares.{lineAt}
 use Rattle.statement.proofs.LineLaws.{Putting, putting-starts, putting-length, putting-next, putting-over}
 use Rattle.statement.proofs.put_lines.Statement.{statement}
 use Rattle.statement.proofs.put_lines.Tie as tie

@@ -1,8 +1,8 @@
 -- `write::put_chunk` meets its contract: its head, the payload as it is stored, and its padding. Assumes nothing.
 use mathlib.Core.Path.{sym}
-use Rattle.film_plan.specs.Payloads.{storedAs}
-use Rattle.film_plan.specs.Films.{lettersOf}
-use Rattle.film_plan.proofs.PayloadLaws.{stored-length}
+use Rattle.write_plan.specs.Payloads.{storedAs}
+use Rattle.write_plan.specs.Films.{lettersOf}
+use Rattle.write_plan.proofs.PayloadLaws.{stored-length}
 use Rattle.write.proofs.BlockPutLaws.{head-fits, inside-fits, padding-fits, block-put}
 use borrow.Author.Needs.{needs}
 use Rattle.write.proofs.put_chunk.Statement.{statement}

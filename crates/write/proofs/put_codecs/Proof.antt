@@ -1,6 +1,6 @@
 -- `write::put_codecs` meets its contract: one block, and with audio a second. Assumes nothing.
 use native.Mathlib.Omega.{arith}
-use Rattle.film_plan.specs.Films.{codecIn}
+use Rattle.write_plan.specs.Films.{codecIn}
 use Rattle.write.proofs.EachPutLaws.{first-fits, second-fits, both-put, one-put}
 use borrow.Author.Needs.{needs}
 use Rattle.write.proofs.put_codecs.Statement.{statement}

@@ -1,6 +1,6 @@
 -- `write::put_film` meets its contract: its header, its chunks and its ends, one after the other. Assumes nothing.
 use native.Mathlib.Omega.{arith}
-use Rattle.film_plan.proofs.SizeLaws.{film-holds}
+use Rattle.write_plan.proofs.SizeLaws.{film-holds}
 use Rattle.write.proofs.FilmPutLaws.{header-fits, chunks-fit, end-fits, film-put}
 use borrow.Author.Needs.{needs}
 use Rattle.write.proofs.put_film.Statement.{statement}

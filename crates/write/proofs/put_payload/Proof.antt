@@ -2,8 +2,8 @@
 use mathlib.Core.Path.{sym, ap}
 use Prim.Native.Nat.{ℕ, _+_}
 use Rattle.laws.proofs.LentLaws.{put-changed}
-use Rattle.film_plan.specs.Payloads.{storedAs}
-use Rattle.film_plan.proofs.PayloadLaws.{stored-length}
+use Rattle.write_plan.specs.Payloads.{storedAs}
+use Rattle.write_plan.proofs.PayloadLaws.{stored-length}
 use borrow.Author.Needs.{needs}
 use Rattle.write.proofs.put_payload.Statement.{statement}
 use Rattle.write.proofs.put_payload.Tie as tie

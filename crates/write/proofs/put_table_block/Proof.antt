@@ -1,8 +1,8 @@
 -- `write::put_table_block` meets its contract: its head, its table, and its padding. Assumes nothing.
 use mathlib.Core.Path.{sym}
 use native.Mathlib.Omega.{arith}
-use Rattle.film_blocks.specs.Tables.{tableWith}
-use Rattle.film_plan.proofs.LengthLaws.{table-length}
+use Rattle.write_blocks.specs.Tables.{tableWith}
+use Rattle.write_plan.proofs.LengthLaws.{table-length}
 use Rattle.write.proofs.BlockPutLaws.{head-fits, inside-fits, padding-fits, block-put}
 use borrow.Author.Needs.{needs}
 use Rattle.write.proofs.put_table_block.Statement.{statement}

@@ -1,8 +1,8 @@
 -- `write::write` meets its contract: what is planned is answered, where the output has room for it, and the film is put. Assumes nothing.
 use mathlib.Core.Path.{refl, sym, _∙_}
 use native.Mathlib.Omega.{arith}
-use Rattle.written.proofs.RoomLaws.{planned-so}
-use Rattle.film_plan.proofs.PlanLaws.{accepted}
+use Rattle.lent.proofs.RoomLaws.{planned-so}
+use Rattle.write_plan.proofs.PlanLaws.{accepted}
 use borrow.Author.Needs.{needs}
 use Rattle.write.proofs.write.Statement.{statement}
 use Rattle.write.proofs.write.Tie as tie

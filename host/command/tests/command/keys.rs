@@ -1,7 +1,7 @@
 use crate::support::Folder;
 
 /// The answers that the proved program two_keys is held to in the gate.
-const RECORDED: &str = include_str!(concat!(env!("CARGO_MANIFEST_DIR"), "/../../crates/two_keys_cases/stdout"));
+const RECORDED: &str = include_str!(concat!(env!("CARGO_MANIFEST_DIR"), "/../../crates/gate_two_keys/stdout"));
 
 #[test]
 fn the_answers_are_those_of_two_keys() {

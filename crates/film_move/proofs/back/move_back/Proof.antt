@@ -1,8 +1,8 @@
 -- `film_move::back::move_back` meets its contract: the size is answered where the output has room for it, and the film is put. Assumes nothing.
 use mathlib.Core.Path.{refl, sym, ap, _∙_}
 use denote.Ref.{now}
-use Rattle.written.specs.Written.{writtenIn}
-use Rattle.written.proofs.RoomLaws.{planned-so}
+use Rattle.lent.specs.Written.{writtenIn}
+use Rattle.lent.proofs.RoomLaws.{planned-so}
 use Rattle.film_move.proofs.ToLaws.{lengths-few, size-is, fits-is, planned-is}
 use borrow.Author.Needs.{needs}
 use Rattle.film_move.proofs.back.move_back.Statement.{statement}

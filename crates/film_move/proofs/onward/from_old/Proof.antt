@@ -1,8 +1,8 @@
 -- `film_move::onward::from_old` meets its contract: a law for each answer. Assumes nothing.
 use mathlib.Core.Path.{sym, ap, _∙_}
 use denote.Ref.{now}
-use Rattle.film_plan.specs.declared.Packing.{Packing}
-use Rattle.film_plan.specs.Planning.{refusedBy}
+use Rattle.write_plan.specs.declared.Packing.{Packing}
+use Rattle.write_plan.specs.Planning.{refusedBy}
 use Rattle.film_move.proofs.FromLaws.{is-film, from-long, from-film, from-foreign}
 use borrow.Author.Needs.{needs}
 use Rattle.film_move.proofs.onward.from_old.Statement.{statement}

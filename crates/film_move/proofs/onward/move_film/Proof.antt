@@ -1,7 +1,7 @@
 -- `film_move::onward::move_film` meets its contract: what is refused of the film without its payloads is refused of it. Assumes nothing.
 use mathlib.Core.Path.{refl, ap, _∙_}
 use denote.Ref.{now}
-use Rattle.written.specs.Written.{writtenIn}
+use Rattle.lent.specs.Written.{writtenIn}
 use Rattle.film_move.proofs.FromLaws.{plan-named, plan-refused}
 use borrow.Author.Needs.{needs}
 use Rattle.film_move.proofs.onward.move_film.Statement.{statement}

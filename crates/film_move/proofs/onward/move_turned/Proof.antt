@@ -2,8 +2,8 @@
 use mathlib.Core.Path.{refl, sym, _∙_}
 use native.Mathlib.Omega.{arith}
 use denote.Ref.{now}
-use Rattle.written.proofs.RoomLaws.{planned-so}
-use Rattle.film_plan.proofs.PlanLaws.{accepted}
+use Rattle.lent.proofs.RoomLaws.{planned-so}
+use Rattle.write_plan.proofs.PlanLaws.{accepted}
 use Rattle.film_move.proofs.FromLaws.{turns-few, plan-moved}
 use borrow.Author.Needs.{needs}
 use Rattle.film_move.proofs.onward.move_turned.Statement.{statement}

@@ -7,8 +7,8 @@ use native.Mathlib.Omega.{arith}
 use lib.ListN.{length}
 use Rattle.laws.proofs.PutLaws.{left-length}
 use Rattle.part.specs.Parts.{partAt}
-use Rattle.film_turns.specs.Chunks.{gapOf}
-use Rattle.film_turns.proofs.TurnLaws.{from-place, end-fits, turn-less}
+use Rattle.turns.specs.Chunks.{gapOf}
+use Rattle.turns.proofs.TurnLaws.{from-place, end-fits, turn-less}
 use Rattle.film_move.proofs.PutLaws.{MoveLeft, move-all, v-few, a-few, v-part, a-part, middle-fits, video-fits, audio-fits, turn-moved, moved-all}
 use borrow.Author.Needs.{needs}
 use Rattle.film_move.proofs.putting.move_turns.Statement.{statement}

@@ -1,6 +1,6 @@
 -- `film_move::putting::put_chunk` meets its contract: its head, the gap, the payload and its padding. Assumes nothing.
 use native.Mathlib.Omega.{arith}
-use Rattle.film_turns.proofs.ChunkLaws.{shape-fits}
+use Rattle.turns.proofs.ChunkLaws.{shape-fits}
 use Rattle.film_move.proofs.PutLaws.{head-fits, gap-has-room, payload-fits, pads-have-room, chunk-put}
 use borrow.Author.Needs.{needs}
 use Rattle.film_move.proofs.putting.put_chunk.Statement.{statement}

@@ -1,7 +1,7 @@
 -- `film_move::putting::put_zeros` meets its contract: so many zeros, of 32. Assumes nothing.
 use mathlib.Core.Path.{sym}
 use Rattle.laws.proofs.PutLaws.{put-as}
-use Rattle.film_turns.proofs.ChunkLaws.{some-zeros, zeros-length}
+use Rattle.turns.proofs.ChunkLaws.{some-zeros, zeros-length}
 use borrow.Author.Needs.{needs}
 use Rattle.film_move.proofs.putting.put_zeros.Statement.{statement}
 use Rattle.film_move.proofs.putting.put_zeros.Tie as tie

@@ -1,7 +1,7 @@
 -- `usm::keys::usm_key_bits` meets its contract, by those of what a film shows and of its reply. Assumes nothing.
 use mathlib.Core.Path.{ap, _∙_}
 use borrow.Author.Needs.{needs}
-use Rattle.shown.specs.KeyBits.{keyBitsReply}
+use Rattle.key_shown.specs.KeyBits.{keyBitsReply}
 use Rattle.usm.proofs.keys.usm_key_bits.Statement.{statement}
 use Rattle.usm.proofs.keys.usm_key_bits.Tie as tie
 

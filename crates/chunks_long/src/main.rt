@@ -1,4 +1,0 @@
-// The program `chunks`, run on a container of 16,385 bytes: one more than it takes.
-fn main() {
-    show::run();
-}

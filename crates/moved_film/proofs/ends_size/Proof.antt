@@ -1,0 +1,16 @@
+-- `moved_film::ends_size` meets its contract: 0x40 bytes for each stream that there is. Assumes nothing.
+use mathlib.Core.Path.{sym, ap, _∙_}
+use Prim.Native.Nat.{ℕ}
+use mathlib.Core.Bool.{Bool, cond}
+use Rattle.moved_film.proofs.FilmLaws.{ends-length}
+use Rattle.moved_film.proofs.ends_size.Statement.{statement}
+use Rattle.moved_film.proofs.ends_size.Tie as tie
+
+returns : tie.Need-returns
+returns c = sym (ends-length (c .before .args .audio) ∙ ap (λ (t : Bool). cond {A = ℕ} t 0x80 0x40) (c .if1 .taken))
+
+returns-2 : tie.Need-returns-2
+returns-2 c = sym (ends-length (c .before .args .audio) ∙ ap (λ (t : Bool). cond {A = ℕ} t 0x80 0x40) (c .if1 .left))
+
+pub ends-size-spec : {M : Type 1} → statement M
+ends-size-spec = tie.close (tie.spec returns returns-2)

@@ -1,0 +1,31 @@
+-- `print_line::write_first` is safe. Assumes nothing.
+use native.Mathlib.Omega.{arith}
+use lib.ListN.{length-take}
+use borrow.Author.Needs.{needs}
+use Rattle.print_line.proofs.write_first.Statement.{statement}
+use Rattle.print_line.proofs.write_first.Tie as tie
+
+returns : tie.Need-returns
+returns c = search needs
+
+array-share-prefix-bytes : tie.Need-array-share-prefix-bytes
+array-share-prefix-bytes c = search needs
+
+slice-aggregate-write-all : tie.Need-slice-aggregate-write-all
+slice-aggregate-write-all c = simp length-take (omega arith)
+
+write-all-requires : tie.Need-write-all-requires
+write-all-requires c κs = search needs
+
+returns-2 : tie.Need-returns-2
+returns-2 c = search needs
+
+pub write-first-spec : {M : Type 1} → statement M
+write-first-spec =
+    tie.close
+    (tie.spec
+    returns
+    array-share-prefix-bytes
+    slice-aggregate-write-all
+    write-all-requires
+    returns-2)

@@ -1,0 +1,99 @@
+-- The promises of specs/Promises.antt, each under its name. An index that was built is the entries of the film's chunks; the entry that answers comes from a
+-- video chunk, and extraction puts that chunk's payload where the payloads before it end. Assumes nothing.
+use Prim.Native.Nat.{ℕ, _+_, _-_, _≤_, _<_}
+use mathlib.Core.Path.{_≡_, refl, sym, ap, _∙_}
+use mathlib.Core.List.{List, [], _∷_, _++_}
+use native.Mathlib.Omega.{arith}
+use native.Mathlib.Nat.{zero-add}
+use lib.ListN.{length, getD, take}
+use Rattle.laws.specs.Lists.{at}
+use Rattle.reading.specs.declared.Applied.{Applied}
+use Rattle.chunk.specs.declared.Kind.{Kind}
+use Rattle.chunk.specs.declared.Kind.the-variants.{Video}
+use Rattle.chunk.specs.declared.Chunk.{Chunk}
+use Rattle.chunk.specs.Chunks.{chunkAt, payloadOf}
+use Rattle.chunk.proofs.Promises.{PayloadsLieWithin}
+use Rattle.walk.specs.Walks.{videoSize}
+use Rattle.walk.proofs.WalkLaws.{stands-at-its-start}
+use Rattle.unmasking.specs.declared.Key.the-variants.{Absent}
+use Rattle.unmasking.specs.Unmasking.{unmaskingOf}
+use Rattle.header.specs.declared.Header.{Header}
+use Rattle.film.specs.Films.{Film, film, refused, filmOf}
+use Rattle.extract.specs.declared.Contents.{Contents}
+use Rattle.extract.specs.declared.Extracted.the-variants as extracted
+use Rattle.extract.specs.Streams.{videoPart}
+use Rattle.extract.specs.Extraction.{Extraction}
+use Rattle.extract.proofs.StreamLaws.{videoUnder}
+use Rattle.extract.proofs.ResultLaws.{its-walk, its-length, both-hold, video-at}
+use Rattle.seek.specs.declared.Sought.the-variants.{At, PastTheEnd}
+use Rattle.seek.specs.Entries.{placeAt, lengthAt}
+use Rattle.seek.specs.Seeking.{begunBy, soughtIn}
+use Rattle.index.specs.Entries.{entriesOf}
+use Rattle.index.specs.Indexing.{silent, indexOf}
+use Rattle.index.proofs.IndexLaws.{replied}
+use Rattle.promises_seek.specs.Promises as promised
+use Rattle.promises_seek.specs.Promises.{HoldsAt, LeadsTo}
+use Rattle.promises_seek.proofs.ChainLaws.{answers, past}
+use Rattle.promises_seek.proofs.EntryLaws.{Comes, chained, comes}
+
+module _ (container : List ℕ) (video audio videoAfter audioAfter : List ℕ) (contents : Contents) (header : Header) (applied : Applied)
+    (e : Extraction container silent Absent video audio (extracted.Film contents) videoAfter audioAfter) where
+  -- the size is that of the chunks' video
+  its-size : (chunks : List Chunk) → filmOf container silent ≡ film header applied chunks → contents .«video_size» ≡ 0 + videoSize chunks
+  its-size chunks f =
+      let by = unmaskingOf Absent (header .«audio_codec») in
+      let held = both-hold container silent header applied chunks f Absent video audio videoAfter audioAfter contents e .0 in
+      omega (arith, held .long, its-length container silent header applied chunks f (videoUnder by))
+
+  -- an offset in the payload of a video chunk leads to the byte that stands so far behind the payloads before it
+  leads : (before after : List Chunk) (chunk : Chunk) → filmOf container silent ≡ film header applied (before ++ chunk ∷ after) → chunk .kind ≡ Video
+      → (p : ℕ) → p < chunk .len → HoldsAt container (chunkAt container applied (chunk .start)) p (at videoAfter (videoSize before + p))
+  leads before after chunk f v p l =
+      let stands = stands-at-its-start container applied (header .start) before after chunk (its-walk container silent header applied (before ++ chunk ∷ after) f) in
+      let whole : length (payloadOf container chunk) ≡ chunk .len = PayloadsLieWithin container applied (chunk .start) chunk stands .1 in
+      let part : videoPart (chunk .kind) (payloadOf container chunk) ≡ payloadOf container chunk = ap (λ (k : Kind). videoPart k (payloadOf container chunk)) v in
+      let room : p < length (videoPart (chunk .kind) (payloadOf container chunk)) = rw (part, whole) l in
+      let there = video-at container silent header applied before after chunk f Absent video audio videoAfter audioAfter contents e p room in
+      rw stands (v, l, sym (there ∙ ap (λ (bytes : List ℕ). at bytes p) part))
+
+  module _ (chunks : List Chunk) (f : filmOf container silent ≡ film header applied chunks) where
+    abbrev index : List (List ℕ)
+    index = entriesOf chunks
+
+    -- the last entry that begins at or before the byte comes from a video chunk
+    by-entry : (n i : ℕ) → Comes 0 chunks (getD index i []) → placeAt index i ≤ n → n - placeAt index i < lengthAt index i
+        → LeadsTo container applied (At (getD (getD index i []) 1 0) (n - placeAt index i)) (at videoAfter n)
+    by-entry n i c b h =
+        let place : placeAt index i ≡ videoSize (c .before) = ap (λ (entry : List ℕ). getD entry 0 0) (c .holds) ∙ zero-add (videoSize (c .before)) in
+        let start : getD (getD index i []) 1 0 ≡ c .chunk .start = ap (λ (entry : List ℕ). getD entry 1 0) (c .holds) in
+        let long : lengthAt index i ≡ c .chunk .len = ap (λ (entry : List ℕ). getD entry 2 0) (c .holds) in
+        let offset = n - placeAt index i in
+        let byte : videoSize (c .before) + offset ≡ n = omega (arith, place, b) in
+        let led = leads (c .before) (c .after) (c .chunk) (f ∙ ap (film header applied) (c .split)) (c .video) offset (omega (arith, long, h)) in
+        rw start (rw byte at led)
+
+    sought : (n : ℕ) → n < contents .«video_size» → LeadsTo container applied (soughtIn index n) (at videoAfter n)
+    sought n l =
+        let a = answers index (0 + videoSize chunks) n (chained 0 chunks) (omega (arith, its-size chunks f)) in
+        let last = begunBy index n - 1 in
+        rw (a .3) (by-entry n last (comes 0 chunks last (a .0)) (a .1) (a .2))
+
+    not-sought : (n : ℕ) → contents .«video_size» ≤ n → soughtIn index n ≡ PastTheEnd
+    not-sought n l = past index (0 + videoSize chunks) n (chained 0 chunks) (omega (arith, its-size chunks f))
+
+pub JumpsAgreeWithTheStream : promised.JumpsAgreeWithTheStream
+JumpsAgreeWithTheStream container list index r video audio videoAfter audioAfter contents header applied chunks n i z e f l =
+    let built : take (r .count) index ≡ entriesOf chunks = replied container list index r i z .1 ∙ ap indexOf f in
+    rw built (sought container video audio videoAfter audioAfter contents header applied e chunks f n l)
+
+pub PastTheSizeIsPastTheEnd : promised.PastTheSizeIsPastTheEnd
+PastTheSizeIsPastTheEnd container list index r video audio videoAfter audioAfter contents n i z e l = by-film (filmOf container silent) refl
+  where
+    by-film : (f : Film) → filmOf container silent ≡ f → soughtIn (take (r .count) index) n ≡ PastTheEnd
+    by-film (film header applied chunks) f =
+        let built : take (r .count) index ≡ entriesOf chunks = replied container list index r i z .1 ∙ ap indexOf f in
+        rw built (not-sought container video audio videoAfter audioAfter contents header applied e chunks f n l)
+    by-film (refused refusal) f =
+        let q : extracted.Film contents ≡ extracted.Refused refusal = rw f at (e .0) in
+        let z : _≡_ {A = ℕ} 0 1 = cc in
+        absurd (omega arith)

@@ -1,0 +1,16 @@
+-- Why the tenants of a group have one copy. Ours: request 13 asks for a statement "as a person reads it".
+use Prim.Native.Nat.{ℕ}
+use mathlib.Core.Bool.{cond}
+use mathlib.Core.List.{List}
+use lib.Dec.{ltb, leb, eqb}
+use Rattle.tenants.specs.Tenants.{sharing, sharingOtherwise, counted}
+use Rattle.statement_reasons.specs.declared.Why.{Why}
+use Rattle.statement_reasons.specs.declared.Why.the-variants.{Alone, KeysAgree, NothingShown, NotShown}
+
+-- those who have one copy with a key: no second one; none whose key does not agree with it where it counts; no payload long enough to show a key; or none
+-- that shows where the keys differ
+abbrev pub whyOf : ℕ → List (List ℕ) → ℕ → Why
+whyOf bytes tenants key =
+    cond (ltb (counted (sharing bytes key) tenants) 2) Alone
+    (cond (eqb (counted (sharingOtherwise bytes key) tenants) 0) KeysAgree
+    (cond (leb bytes 0x140) NothingShown NotShown))

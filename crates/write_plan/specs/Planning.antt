@@ -1,0 +1,46 @@
+-- Rule W8: what is refused before an output is looked at. "Refusals: 23 for an audio codec given without audio, 11 for a result over the limit, then 15 marker at the
+-- front of a payload".
+use Prim.Native.Nat.{ℕ}
+use mathlib.Core.List.{List, [], _∷_}
+use mathlib.Core.Bool.{Bool, true, false, not, cond, _||_, _&&_}
+use lib.ListN.{length}
+use lib.Dec.{ltb}
+use Rattle.refusal.specs.declared.Cause.{Cause}
+use Rattle.refusal.specs.declared.Cause.the-variants.{TooLong, MarkedPayload, CodecAlone}
+use Rattle.signature.specs.Signatures.{contentsEnd, standsAt}
+use Rattle.codec.specs.declared.Codec.{Codec}
+use Rattle.codec.specs.declared.Codec.the-variants.{Value, Absent}
+use Rattle.lent.specs.declared.Written.{Written}
+use Rattle.lent.specs.declared.Written.the-variants.{Size, Refused}
+use Rattle.write_plan.specs.declared.Packing.{Packing}
+use Rattle.write_plan.specs.declared.Measured.{Measured}
+use Rattle.write_plan.specs.declared.Measured.the-variants.{Over}
+use Rattle.write_plan.specs.declared.Measured.the-variants as measured
+use Rattle.write_plan.specs.Payloads.{payloadsOf}
+use Rattle.write_plan.specs.Films.{filmBytes}
+
+-- "15, 16 and 19 to 23 have place 0", and so has 11
+abbrev pub refusedBy : Cause → Written
+refusedBy cause = Refused (record { cause = cause; place = 0 })
+
+-- "an audio codec given"
+abbrev pub isGiven : Codec → Bool
+isGiven (Value n) = true
+isGiven Absent = false
+
+-- "A payload that itself begins with the end marker would be skipped on reading"
+unfoldable pub anyMarked : List (List ℕ) → Bool
+anyMarked [] = false
+anyMarked (payload ∷ payloads) = standsAt contentsEnd payload 0 || anyMarked payloads
+
+-- a film of so many bytes, or that it is "over the limit": "container 1,073,741,824 bytes"
+abbrev pub measuredIn : ℕ → Measured
+measuredIn size = cond (ltb 0x40000000 size) Over (measured.Size size)
+
+-- a film's size, or the first refusal
+unfoldable pub plannedOf : List ℕ → List ℕ → List ℕ → Packing → Written
+plannedOf name video audio packing =
+    cond (not (packing .audio) && isGiven (packing .«audio_codec»)) (refusedBy CodecAlone)
+    (cond (ltb 0x40000000 (length (filmBytes name video audio packing))) (refusedBy TooLong)
+    (cond (anyMarked (payloadsOf video) || anyMarked (payloadsOf audio)) (refusedBy MarkedPayload)
+    (Size (length (filmBytes name video audio packing)))))
