@@ -8,7 +8,7 @@ use Rattle.word.specs.Numbers.{be32}
 use Rattle.refusal.specs.declared.Cause.{Cause}
 use Rattle.refusal.specs.declared.Cause.the-variants as cause
 use Rattle.reading.specs.declared.Reading.{Reading}
-use Rattle.signature.specs.Signatures.{CRID, SFV, SFA, metadataEnd, standsAt}
+use Rattle.signature.specs.Signatures.{CRID, SFV, SFA, metadataEnd, standsAt, filename}
 use Rattle.film_name.specs.Names.{nameIn}
 use Rattle.codec.specs.Codecs.{codecOf}
 use Rattle.table.specs.declared.TableAnswer.{TableAnswer}
@@ -25,10 +25,6 @@ use Rattle.block.specs.declared.NameBlock.{NameBlock}
 use Rattle.block.specs.declared.NameBlock.the-variants.{Named, NoName}
 use Rattle.block.specs.declared.Ahead.{Ahead}
 use Rattle.block.specs.declared.Ahead.the-variants.{Sound, Other, Cut}
-
--- `filename`
-abbrev pub filename : List ℕ
-filename = 0x66 ∷ 0x69 ∷ 0x6C ∷ 0x65 ∷ 0x6E ∷ 0x61 ∷ 0x6D ∷ 0x65 ∷ []
 
 -- Each refusal carries "the start of the block being read"
 abbrev pub refusedAt : ℕ → Cause → BlockAnswer

@@ -4,9 +4,10 @@
 ghost use mathlib.Core.Path.{_≡_};
 ghost use Prim.Native.Nat.{_+_, _≤_, _<_, _^_};
 ghost use lib.ListN.{length};
+ghost use Rattle.signature.specs.Signatures.{filename};
 ghost use Rattle.table.specs.Tables.{tableAt};
 ghost use Rattle.lookup.specs.Lookups.{cellOf, lastCellOf};
-ghost use Rattle.block.specs.Blocks.{filename, refusedAt, headAt, markedAt, tabled, coded, named, markerBlock, tableBlock, codecBlock, nameBlock, aheadAt, chunksAfter, lastBlock};
+ghost use Rattle.block.specs.Blocks.{refusedAt, headAt, markedAt, tabled, coded, named, markerBlock, tableBlock, codecBlock, nameBlock, aheadAt, chunksAfter, lastBlock};
 use codec::Codec;
 use film_name::Name;
 use lookup::Lookup;

@@ -55,7 +55,7 @@ pub enum Stepped {
 }
 
 // The bytes that every chunk has: as many as an end chunk needs.
-const OPENING: usize = 45;
+pub const OPENING: usize = 45;
 
 // The bytes of a chunk that its header size does not count.
 const UNCOUNTED: usize = 8;

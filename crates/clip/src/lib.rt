@@ -5,12 +5,8 @@ ghost use Rattle.mask.specs.Positions.{lanesShown};
 ghost use Prim.Native.Nat.{_≤_};
 ghost use Rattle.key.specs.LaneBits.{showing};
 ghost use Rattle.clip.specs.Clips.{clipTells, bitsShown};
-
-// From here on sound is masked.
-const TAIL: usize = 0x140;
-
-// The lanes of a row.
-const ROW: usize = 0x20;
+use mask::ROW;
+use mask::TAIL;
 
 // How many lanes of its mask a clip shows, from lane 0 on.
 fn lanes_shown(bytes: usize) -> usize

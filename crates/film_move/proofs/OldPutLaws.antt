@@ -8,7 +8,7 @@ use lib.ListN.{length, length-replicate}
 use Rattle.laws.specs.Outputs.{Put}
 use Rattle.laws.proofs.PutLaws.{Left, all-left, less-left, left-fits, next-fits, put-then, put-as}
 use Rattle.signature.specs.Signatures.{CRID, SFV, SFA}
-use Rattle.write_blocks.specs.Blocks.{padding}
+use Rattle.word.specs.Bytes.{padding}
 use Rattle.old_film.specs.Blocks.{oldHead, tableBlock, endBlock}
 use Rattle.old_film.specs.Tables.{oldNames, oldVideo, oldAudio}
 use Rattle.old_film.specs.Films.{audioBlocks, oldEnds}

@@ -9,7 +9,7 @@ use lib.Seq.{drop-drop, take-all}
 use lib.Dec.{eqb}
 use Rattle.laws.specs.Outputs.{Put}
 use Rattle.laws.proofs.PutLaws.{Left, all-left, less-left, left-fits, next-fits, none-left, put-then}
-use Rattle.write_blocks.specs.Blocks.{zeros}
+use Rattle.word.specs.Bytes.{zeros}
 use Rattle.turns.specs.declared.Track.{Track}
 use Rattle.turns.specs.declared.Track.the-variants.{Video, Audio}
 use Rattle.turns.specs.declared.Form.{Form}

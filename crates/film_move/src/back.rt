@@ -15,7 +15,6 @@ ghost use Rattle.old_film.specs.Films.{audioBlocks, oldEnds};
 ghost use Rattle.old_film.specs.Finding.{nameSize, audiosOf};
 ghost use Rattle.moved_film.specs.Finding.{partsOf, isNew, filmBy};
 ghost use Rattle.film_move.specs.ToOld.{oldOf, ToOld};
-use crate::LONGEST;
 use crate::putting::move_turns;
 use crate::putting::put;
 use crate::putting::put_zeros;
@@ -24,6 +23,7 @@ use lent::Written;
 use moved_film::Found;
 use moved_film::NewFilm;
 use refusal::Cause;
+use refusal::LONGEST;
 use turns::Form;
 
 // Puts the builder's first block, with a film's name.
@@ -35,7 +35,7 @@ fn put_name(out: &mut [u8], at: usize, name: &[u8]) -> usize
     let head = old_film::name_head(len as u32);
     let at = put(out, at, &head);
     let at = put(out, at, name);
-    put_zeros(out, at, 1 + write_blocks::padding(97 + len))
+    put_zeros(out, at, 1 + word::padding(97 + len))
 }
 
 // Puts the blocks of a video of `video` bytes and, if there is one, of the audio.
@@ -81,7 +81,7 @@ fn old_size(film: NewFilm) -> usize
     ensures { λ r. ⌜ r ≡ nameSize (film .name) + (0x80 + (length (audioBlocks 0 (audiosOf (film .packing .audio) [])) + length (oldEnds (audiosOf (film .packing .audio) [])))) + (streamSize form.Old (film .turns .video) + streamSize form.Old (film .turns .audio)) ⌝ }
 {
     let len = 97 + film.name;
-    let frame = len + write_blocks::padding(len) + blocks_size(film.packing.audio);
+    let frame = len + word::padding(len) + blocks_size(film.packing.audio);
     let video = turns::stream_size(Form::Old, film.turns.video as u32);
     let audio = turns::stream_size(Form::Old, film.turns.audio as u32);
     frame + (video + audio)

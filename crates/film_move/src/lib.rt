@@ -5,6 +5,3 @@ mod putting;
 
 pub use back::to_old;
 pub use onward::from_old;
-
-// The longest container.
-const LONGEST: usize = 0x40000000;

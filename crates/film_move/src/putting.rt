@@ -3,7 +3,7 @@ ghost use mathlib.Core.Path.{_≡_};
 ghost use Prim.Native.Nat.{_+_, _≤_};
 ghost use lib.ListN.{length};
 ghost use Rattle.laws.specs.Outputs.{Put};
-ghost use Rattle.write_blocks.specs.Blocks.{zeros};
+ghost use Rattle.word.specs.Bytes.{zeros};
 ghost use Rattle.write_plan.specs.Planning.{refusedBy};
 ghost use Rattle.turns.specs.Chunks.{chunkOf};
 ghost use Rattle.turns.specs.Turns.{nextOf};

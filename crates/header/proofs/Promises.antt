@@ -8,7 +8,7 @@ use lib.ListN.{length}
 use lib.Dec.{ltb}
 use Rattle.refusal.specs.declared.Cause.the-variants as cause
 use Rattle.reading.specs.declared.Reading.{Reading}
-use Rattle.signature.specs.Signatures.{CRID, SFA, SFV}
+use Rattle.signature.specs.Signatures.{CRID, SFA, SFV, filename, mpegCodec, audioCodec}
 use Rattle.cell.specs.declared.Cell.{Cell}
 use Rattle.cell.specs.declared.Cell.the-variants.{Nothing, Unsigned, Signed, Float, NotANumber, Text, Data}
 use Rattle.film_name.specs.declared.Name.{Name}
@@ -27,10 +27,10 @@ use Rattle.block.specs.declared.CodecBlock.{CodecBlock}
 use Rattle.block.specs.declared.CodecBlock.the-variants.{Coded, NoCodec}
 use Rattle.block.specs.declared.Ahead.{Ahead}
 use Rattle.block.specs.declared.Ahead.the-variants.{Sound, Other, Cut}
-use Rattle.block.specs.Blocks.{filename, headAt, codecBlock, named, thenName, nameBlock, aheadAt}
+use Rattle.block.specs.Blocks.{headAt, codecBlock, named, thenName, nameBlock, aheadAt}
 use Rattle.header.specs.declared.HeaderAnswer.{HeaderAnswer}
 use Rattle.header.specs.declared.HeaderAnswer.the-variants.{Read, Refused}
-use Rattle.header.specs.Headers.{mpegCodec, audioCodec, byAhead, step4, refused, finish, afterCodec, afterName, step3Audio, step3, step2, step1, headerOf}
+use Rattle.header.specs.Headers.{byAhead, step4, refused, finish, afterCodec, afterName, step3Audio, step3, step2, step1, headerOf}
 use Rattle.header.specs.Promises as promised
 
 -- where a name ends, 0 where it is no part of the container

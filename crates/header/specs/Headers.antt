@@ -9,7 +9,7 @@ use lib.Dec.{ltb}
 use Rattle.refusal.specs.declared.Cause.{Cause}
 use Rattle.refusal.specs.declared.Cause.the-variants.{RanOut, NoVideo, NoAudio, NoHeaderEnd, NoMetadataEnd, TooLong}
 use Rattle.reading.specs.declared.Reading.{Reading}
-use Rattle.signature.specs.Signatures.{SFV, SFA, headerEnd, metadataEnd}
+use Rattle.signature.specs.Signatures.{SFV, SFA, headerEnd, metadataEnd, mpegCodec, audioCodec}
 use Rattle.film_name.specs.declared.Name.{Name}
 use Rattle.codec.specs.declared.Codec.{Codec}
 use Rattle.codec.specs.declared.Codec.the-variants.{Absent}
@@ -24,14 +24,6 @@ use Rattle.block.specs.declared.Ahead.the-variants.{Sound, Other, Cut}
 use Rattle.block.specs.Blocks.{refusedAt, andThen, markerBlock, tableBlock, codecBlock, nameBlock, aheadAt, lastBlock}
 use Rattle.header.specs.declared.HeaderAnswer.{HeaderAnswer}
 use Rattle.header.specs.declared.HeaderAnswer.the-variants.{Read, Refused}
-
--- `mpeg_codec`
-abbrev pub mpegCodec : List ℕ
-mpegCodec = 0x6D ∷ 0x70 ∷ 0x65 ∷ 0x67 ∷ 0x5F ∷ 0x63 ∷ 0x6F ∷ 0x64 ∷ 0x65 ∷ 0x63 ∷ []
-
--- `audio_codec`
-abbrev pub audioCodec : List ℕ
-audioCodec = 0x61 ∷ 0x75 ∷ 0x64 ∷ 0x69 ∷ 0x6F ∷ 0x5F ∷ 0x63 ∷ 0x6F ∷ 0x64 ∷ 0x65 ∷ 0x63 ∷ []
 
 -- "If `@SFA` is next" the first, else the second; the third where the letters are cut
 abbrev pub byAhead : {A : Type 0} → A → A → A → Ahead → A

@@ -11,6 +11,7 @@ use codec::Codec;
 use film_name::Name;
 use reading::Reading;
 use refusal::Cause;
+use refusal::LONGEST;
 use refusal::Refusal;
 
 // What the header says of a film, and where its chunks begin.
@@ -30,9 +31,6 @@ pub enum HeaderAnswer {
     Read(Header),
     Refused(Refusal),
 }
-
-// A longer container is refused.
-const LONGEST: usize = 0x4000_0000;
 
 // 8: `@SFV` with `#METADATA END`, whose size is not read; chunks begin after its marker.
 fn step_8(container: &[u8], place: usize) -> BlockAnswer

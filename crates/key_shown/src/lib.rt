@@ -13,6 +13,7 @@ use chunk::Chunk;
 use chunk::ChunkStep;
 use chunk::Kind;
 use film::Surveyed;
+use mask::SHORTEST_VIDEO;
 use reading::Applied;
 use reading::Reading;
 use refusal::Refusal;
@@ -32,9 +33,6 @@ pub struct KeyBitsReply {
     pub unknown_type: u8,
 }
 
-// A shorter picture is not masked.
-const PICTURE: usize = 0x240;
-
 // The data type of a masked payload.
 const MASKED: u8 = 0;
 
@@ -52,7 +50,7 @@ fn larger(a: usize, b: usize) -> usize
 fn picture_shows(len: usize) -> usize
     ensures { λ r. ⌜ r ≡ cond (ltb len 0x240) 0 len ⌝ }
 {
-    if len < PICTURE {
+    if len < SHORTEST_VIDEO {
         return 0;
     }
     len

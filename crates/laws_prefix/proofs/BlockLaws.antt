@@ -14,7 +14,7 @@ use Rattle.refusal.specs.declared.Cause.{Cause}
 use Rattle.refusal.specs.declared.Cause.the-variants as cause
 use Rattle.reading.specs.declared.TableMode.{TableMode}
 use Rattle.reading.specs.declared.Reading.{Reading}
-use Rattle.signature.specs.Signatures.{CRID, SFV, SFA, metadataEnd}
+use Rattle.signature.specs.Signatures.{CRID, SFV, SFA, metadataEnd, filename}
 use Rattle.layout.specs.declared.LayoutAnswer.the-variants.{NoLayout}
 use Rattle.layout.specs.Layouts.{layoutIn}
 use Rattle.table.specs.declared.TableAnswer.{TableAnswer}
@@ -29,7 +29,7 @@ use Rattle.block.specs.declared.CodecBlock.{CodecBlock}
 use Rattle.block.specs.declared.NameBlock.{NameBlock}
 use Rattle.block.specs.declared.Ahead.{Ahead}
 use Rattle.block.specs.declared.Ahead.the-variants.{Sound, Other}
-use Rattle.block.specs.Blocks.{filename, refusedAt, headAt, markedAt, tabled, coded, named, andThen, thenCodec, thenName, markerBlock, tableBlock, codecBlock, nameBlock, aheadAt, chunksAfter, lastBlock}
+use Rattle.block.specs.Blocks.{refusedAt, headAt, markedAt, tabled, coded, named, andThen, thenCodec, thenName, markerBlock, tableBlock, codecBlock, nameBlock, aheadAt, chunksAfter, lastBlock}
 use Rattle.block.proofs.BlockLaws.{ahead-cut}
 use Rattle.header.specs.Headers.{byAhead}
 use Rattle.laws_prefix.specs.Needs.{isLaid, laidAt}

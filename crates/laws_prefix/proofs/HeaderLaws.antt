@@ -8,7 +8,7 @@ use lib.ListN.{length}
 use borrow.Author.Tests.{le-ltb}
 use Rattle.refusal.specs.declared.Cause.the-variants as cause
 use Rattle.reading.specs.declared.Reading.{Reading}
-use Rattle.signature.specs.Signatures.{SFV, SFA, headerEnd, metadataEnd}
+use Rattle.signature.specs.Signatures.{SFV, SFA, headerEnd, metadataEnd, mpegCodec, audioCodec}
 use Rattle.film_name.specs.declared.Name.{Name}
 use Rattle.codec.specs.declared.Codec.{Codec}
 use Rattle.codec.specs.declared.Codec.the-variants.{Absent}
@@ -20,7 +20,7 @@ use Rattle.block.specs.declared.NameBlock.{NameBlock}
 use Rattle.block.specs.declared.NameBlock.the-variants.{Named, NoName}
 use Rattle.block.specs.Blocks.{refusedAt, markerBlock, tableBlock, codecBlock, nameBlock}
 use Rattle.header.specs.declared.HeaderAnswer.{HeaderAnswer}
-use Rattle.header.specs.Headers.{mpegCodec, audioCodec, step8, step7Video, step7Table, step7, step6, step5, step4, refused, finish, afterCodec, afterName, step3Audio, step3, step2, step1, headerOf}
+use Rattle.header.specs.Headers.{step8, step7Video, step7Table, step7, step6, step5, step4, refused, finish, afterCodec, afterName, step3Audio, step3, step2, step1, headerOf}
 use Rattle.laws_prefix.proofs.ByteLaws.{longer}
 use Rattle.laws_prefix.proofs.Settled.{Settled, blockOpen, codecOpen, nameOpen, headerOpen, none}
 use Rattle.laws_prefix.proofs.BlockLaws.{ran-out, then-settled, marker-settled, table-block-settled, codec-settled, name-settled, ahead-settled, last-block-settled}

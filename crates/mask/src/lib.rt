@@ -14,16 +14,16 @@ use key::Keys;
 const HEAD: usize = 0x40;
 
 // Where the tail starts, and what is masked of audio.
-const TAIL: usize = 0x140;
+pub const TAIL: usize = 0x140;
 
 // The bytes of a row.
-const ROW: usize = 0x20;
+pub const ROW: usize = 0x20;
 
 // The bytes of eight rows.
 const EIGHT: usize = 0x100;
 
 // A shorter video payload is not masked.
-const SHORTEST_VIDEO: usize = 0x240;
+pub const SHORTEST_VIDEO: usize = 0x240;
 
 // XORs each byte with the row's byte in its lane.
 fn xor_in(bytes: &mut [u8], row: [u8; 32])

@@ -11,11 +11,11 @@ use lib.Dec.{eqb}
 use borrow.Author.Tests.{le-leb, lt-leb}
 use Rattle.laws.proofs.Side.{side}
 use Rattle.part.specs.Parts.{partAt}
-use Rattle.signature.specs.Signatures.{CRID, sameBytes, standsAt}
-use Rattle.block.specs.Blocks.{filename}
+use Rattle.signature.specs.Signatures.{CRID, sameBytes, standsAt, filename}
 use Rattle.unmasking.specs.declared.Key.the-variants.{Absent}
 use Rattle.utf8.specs.Utf8.{isUtf8}
-use Rattle.write_blocks.specs.Blocks.{bytes32, zeros, padding, headOf, blockOf}
+use Rattle.word.specs.Bytes.{bytes32, zeros, padding}
+use Rattle.write_blocks.specs.Blocks.{headOf, blockOf}
 use Rattle.write_blocks.specs.Tables.{tableHead, tableWith, nameTable}
 use Rattle.write_plan.specs.declared.Packing.{Packing}
 use Rattle.write_plan.specs.Films.{filmBytes}

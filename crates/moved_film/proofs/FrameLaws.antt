@@ -14,7 +14,7 @@ use Rattle.refusal.specs.declared.Refusal.{Refusal}
 use Rattle.lent.specs.declared.Written.{Written}
 use Rattle.lent.specs.declared.Written.the-variants.{Size, Refused}
 use Rattle.lent.specs.Written.{writtenIn, leftBy}
-use Rattle.write_blocks.specs.Blocks.{zeros}
+use Rattle.word.specs.Bytes.{zeros}
 use Rattle.write_blocks.specs.Tables.{markerOf, emptyTable}
 use Rattle.write_plan.specs.declared.Packing.{Packing}
 use Rattle.write_plan.specs.Payloads.{payloadsOf}

@@ -13,7 +13,7 @@ use borrow.Author.Tests.{ltb-false, le-leb, lt-leb}
 use Rattle.laws.proofs.Side.{side}
 use Rattle.refusal.specs.declared.Refusal.{Refusal}
 use Rattle.refusal.specs.declared.Cause.the-variants.{RanOut, NoVideo, NoAudio, TooLong}
-use Rattle.signature.specs.Signatures.{SFV, SFA}
+use Rattle.signature.specs.Signatures.{SFV, SFA, mpegCodec, audioCodec}
 use Rattle.reading.specs.declared.Reading.{Reading}
 use Rattle.codec.specs.declared.Codec.{Codec}
 use Rattle.codec.specs.declared.Codec.the-variants.{Absent}
@@ -32,7 +32,7 @@ use Rattle.block.specs.Blocks.{codecBlock, nameBlock, aheadAt}
 use Rattle.header.specs.declared.Header.{Header}
 use Rattle.header.specs.declared.HeaderAnswer.{HeaderAnswer}
 use Rattle.header.specs.declared.HeaderAnswer.the-variants.{Read, Refused}
-use Rattle.header.specs.Headers.{mpegCodec, audioCodec, byAhead, step4, refused, finish, afterCodec, afterName, step3Audio, step3, step2, step1, headerOf}
+use Rattle.header.specs.Headers.{byAhead, step4, refused, finish, afterCodec, afterName, step3Audio, step3, step2, step1, headerOf}
 use Rattle.write_plan.specs.Planning.{isGiven}
 use Rattle.moved_film.specs.declared.Found.the-variants.{Foreign}
 use Rattle.moved_film.specs.Finding.{answerIn, nameBy, partsBy, isNew, partsOf, foundAs, foundIn}

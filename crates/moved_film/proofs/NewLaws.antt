@@ -6,7 +6,8 @@ use mathlib.Core.Bool.{false}
 use native.Mathlib.Omega.{arith}
 use lib.ListN.{length, take, drop, length-drop}
 use Rattle.unmasking.specs.declared.Unmasking.{Unmasking}
-use Rattle.write_blocks.specs.Blocks.{padding, headOf, blockOf}
+use Rattle.word.specs.Bytes.{padding}
+use Rattle.write_blocks.specs.Blocks.{headOf, blockOf}
 use Rattle.write_plan.specs.declared.Stream.{Stream}
 use Rattle.write_plan.specs.declared.Stream.the-variants.{Video, Audio}
 use Rattle.write_plan.specs.Payloads.{storedAs}

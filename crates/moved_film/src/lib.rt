@@ -88,7 +88,7 @@ fn name_stands(container: &[u8], name: &[u8]) -> bool
     let table = write_blocks::table_head(TAG, 8, 8, len as u32);
     let cell = write_blocks::name_cell(len as u32);
     let none = [0u8; 32];
-    let pads = write_blocks::padding(inside);
+    let pads = word::padding(inside);
     let zeros = signature::stands_at(&none[..pads], container, NAME + len);
     let named = both(signature::stands_at(name, container, NAME), zeros);
     let column = both(
@@ -109,7 +109,7 @@ fn rebuild(container: &[u8], name: &[u8], packing: Packing, rest: &[u8], ends: &
     ensures { λ r. ⌜ r ≡ foundAs (now (container .entry)) (partsFrom (now (container .entry)) (now (name .entry)) packing) ⌝ }
 {
     let len = name.len();
-    let first = NAME + len + write_blocks::padding(TABLE + len);
+    let first = NAME + len + word::padding(TABLE + len);
     let start = first + rest.len();
     let chunks = part::part_at(container, start, word::left_from(container, start));
     let turns = turns::read_turns(chunks, Form::New, packing.audio);

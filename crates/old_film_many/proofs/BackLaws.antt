@@ -10,7 +10,7 @@ use lib.Dec.{ltb}
 use borrow.Author.Tests.{lt-ltb}
 use Rattle.signature.specs.Signatures.{CRID, SFV, SFA, sameBytes}
 use Rattle.utf8.specs.Utf8.{isUtf8}
-use Rattle.write_blocks.specs.Blocks.{bytes32}
+use Rattle.word.specs.Bytes.{bytes32}
 use Rattle.turns.specs.Chunks.{shapeOf, headBy, chunkOf}
 use Rattle.turns.specs.Turns.{nextOf}
 use Rattle.turns.proofs.FrontLaws.{front, same-self}

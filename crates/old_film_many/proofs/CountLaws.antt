@@ -9,7 +9,7 @@ use lib.Seq.{drop-drop, drop-at}
 use lib.Dec.{ltb}
 use borrow.Author.Tests.{ltb-true, ltb-false}
 use Rattle.signature.specs.Signatures.{SFA, sameBytes, standsAt}
-use Rattle.write_blocks.specs.Blocks.{bytes32}
+use Rattle.word.specs.Bytes.{bytes32}
 use Rattle.turns.proofs.FrontLaws.{front, stands-front, front-append, front-self, stands-then, front-fits, both-true}
 use Rattle.old_film.specs.Blocks.{oldHead, tableBlock}
 use Rattle.old_film.specs.Tables.{oldAudio}

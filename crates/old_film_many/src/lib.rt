@@ -17,9 +17,7 @@ ghost use Rattle.old_film.specs.Tables.{oldAudio};
 ghost use Rattle.old_film_many.specs.Audios.{countIn, payloadsIn, sizesOf, seenFrom, heardFrom, turnAt, streamsIn, sizesBy, isMany};
 use turns::Form;
 use turns::Track;
-
-// The longest payload.
-const PAYLOAD: usize = 0x10000;
+use write_blocks::PAYLOAD;
 
 // How many numbers audios can have.
 const NUMBERS: usize = 0x100000000;

@@ -13,7 +13,9 @@ use reading::Applied;
 use reading::Reading;
 use reading::TableMode;
 use refusal::Cause;
+use refusal::LONGEST;
 use refusal::Refusal;
+use signature::INSIDE;
 use unmasking::Mask;
 
 // What a beginning says of a film's header: what it is, or that more bytes are needed to say.
@@ -21,12 +23,6 @@ pub enum Opened {
     More,
     Known(HeaderAnswer),
 }
-
-// The longest container.
-const LONGEST: usize = 0x4000_0000;
-
-// How many bytes after its start a block has its table.
-const INSIDE: usize = 0x20;
 
 // The number of the refusal that more bytes can change.
 const RAN_OUT: u8 = 1;

@@ -9,7 +9,7 @@ use lib.Seq.{drop-drop, drop-at}
 use lib.Dec.{ltb}
 use Rattle.signature.specs.Signatures.{CRID, SFV, SFA, sameBytes, standsAt}
 use Rattle.utf8.specs.Utf8.{isUtf8}
-use Rattle.write_blocks.specs.Blocks.{bytes32}
+use Rattle.word.specs.Bytes.{bytes32}
 use Rattle.turns.specs.declared.Track.{Track}
 use Rattle.turns.specs.declared.Track.the-variants.{Video, Audio}
 use Rattle.turns.specs.declared.Form.the-variants.{Old}

@@ -6,7 +6,7 @@ use mathlib.Core.Bool.{Bool}
 use native.Mathlib.Omega.{arith}
 use Rattle.codec.specs.declared.Codec.{Codec}
 use Rattle.codec.specs.declared.Codec.the-variants.{Value, Absent}
-use Rattle.header.specs.Headers.{mpegCodec, audioCodec}
+use Rattle.signature.specs.Signatures.{mpegCodec, audioCodec}
 use Rattle.write_blocks.specs.Tables.{codecTable}
 use Rattle.write_plan.specs.Films.{headerBlocks, filmBytes}
 use Rattle.write_plan.specs.Planning.{isGiven, plannedOf}

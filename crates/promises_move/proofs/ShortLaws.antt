@@ -8,7 +8,7 @@ use lib.ListN.{length}
 use lib.Dec.{eqb}
 use Rattle.codec.specs.declared.Codec.{Codec}
 use Rattle.codec.specs.declared.Codec.the-variants.{Value, Absent}
-use Rattle.write_blocks.specs.Blocks.{padding}
+use Rattle.word.specs.Bytes.{padding}
 use Rattle.write_plan.specs.declared.Packing.{Packing}
 use Rattle.write_plan.specs.Films.{filmBytes}
 use Rattle.write_plan.specs.Sizes.{blockSize, codecSize, frameSize, filmSize}

@@ -14,9 +14,10 @@ use Rattle.signature.specs.Signatures.{SFV, SFA, metadataEnd, sameBytes, stands
 use Rattle.block.specs.declared.BlockAnswer.the-variants.{Next}
 use Rattle.block.specs.declared.Ahead.the-variants.{Sound, Other}
 use Rattle.block.specs.Blocks.{headAt, markedAt, markerBlock, aheadAt, lastBlock, chunksAfter}
-use Rattle.write_blocks.specs.Blocks.{zeros, padding, headOf, blockOf}
+use Rattle.word.specs.Bytes.{zeros, padding}
+use Rattle.write_blocks.specs.Blocks.{headOf, blockOf}
 use Rattle.write_blocks.specs.Tables.{markerOf}
-use Rattle.write_blocks.proofs.NumberLaws.{whole16, whole32}
+use Rattle.word.proofs.NumberLaws.{whole16, whole32}
 use Rattle.write_plan.specs.Sizes.{blockSize}
 use Rattle.write_plan.proofs.LengthLaws.{head-length, block-length}
 use Rattle.promises_write.proofs.FromLaws.{From, left-is, be32-is, stands-is}

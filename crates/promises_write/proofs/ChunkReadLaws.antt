@@ -26,7 +26,8 @@ use Rattle.chunk.specs.declared.ChunkStep.the-variants.{Found}
 use Rattle.chunk.specs.Openings.{kindAt, openingAt}
 use Rattle.chunk.specs.Chunks.{offsetOf, isShort, chunkOf, heldAt, takenAt, openedAt, chunkAt}
 use Rattle.unmasking.specs.declared.Unmasking.{Unmasking}
-use Rattle.write_blocks.specs.Blocks.{zeros, padding, headOf, blockOf}
+use Rattle.word.specs.Bytes.{zeros, padding}
+use Rattle.write_blocks.specs.Blocks.{headOf, blockOf}
 use Rattle.write_blocks.specs.Tables.{markerOf}
 use Rattle.write_plan.specs.declared.Stream.{Stream}
 use Rattle.write_plan.specs.declared.Stream.the-variants.{Video, Audio}

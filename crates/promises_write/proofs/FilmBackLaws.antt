@@ -8,8 +8,7 @@ use lib.ListN.{length, drop, length-append}
 use lib.Seq.{drop-drop, take-at}
 use borrow.Author.Tests.{le-leb, ne-eqb}
 use Rattle.part.specs.Parts.{partAt}
-use Rattle.block.specs.Blocks.{filename}
-use Rattle.signature.specs.Signatures.{CRID, SFV, SFA, headerEnd, metadataEnd, contentsEnd}
+use Rattle.signature.specs.Signatures.{CRID, SFV, SFA, headerEnd, metadataEnd, contentsEnd, filename, mpegCodec, audioCodec}
 use Rattle.reading.specs.declared.Reading.{Reading}
 use Rattle.reading.specs.declared.Applied.{Applied}
 use Rattle.reading.specs.Choices.{takesChannel, appliedTo}
@@ -19,12 +18,13 @@ use Rattle.unmasking.specs.declared.Unmasking.{Unmasking}
 use Rattle.unmasking.specs.Unmasking.{unmaskingOf}
 use Rattle.header.specs.declared.HeaderAnswer.{HeaderAnswer}
 use Rattle.header.specs.declared.HeaderAnswer.the-variants.{Read}
-use Rattle.header.specs.Headers.{mpegCodec, audioCodec, headerOf}
+use Rattle.header.specs.Headers.{headerOf}
 use Rattle.chunk.specs.declared.Chunk.{Chunk}
 use Rattle.walk.specs.Walks.{clean, walkFrom, joined}
 use Rattle.film.specs.Films.{film, filmFrom, filmOf}
 use Rattle.extract.specs.Streams.{videoStream, audioStream}
-use Rattle.write_blocks.specs.Blocks.{bytes32, zeros, padding, blockOf}
+use Rattle.word.specs.Bytes.{bytes32, zeros, padding}
+use Rattle.write_blocks.specs.Blocks.{blockOf}
 use Rattle.write_blocks.specs.Tables.{markerOf, emptyTable, tableHead, tableWith, nameTable, codecTable}
 use Rattle.write_plan.specs.declared.Stream.{Stream}
 use Rattle.write_plan.specs.declared.Stream.the-variants.{Video, Audio}

@@ -10,7 +10,7 @@ use borrow.Author.Tests.{le-ltb}
 use Rattle.refusal.specs.declared.Cause.{Cause}
 use Rattle.refusal.specs.declared.Cause.the-variants.{NoVideo, NoAudio, NoHeaderEnd, NoMetadataEnd}
 use Rattle.reading.specs.declared.Reading.{Reading}
-use Rattle.signature.specs.Signatures.{CRID, SFV, SFA, headerEnd, metadataEnd}
+use Rattle.signature.specs.Signatures.{CRID, SFV, SFA, headerEnd, metadataEnd, filename, mpegCodec, audioCodec}
 use Rattle.cell.specs.declared.Cell.the-variants.{Unsigned, Data}
 use Rattle.codec.specs.declared.Codec.{Codec}
 use Rattle.codec.specs.declared.Codec.the-variants.{Value, Absent}
@@ -20,11 +20,12 @@ use Rattle.block.specs.declared.BlockAnswer.{BlockAnswer}
 use Rattle.block.specs.declared.BlockAnswer.the-variants.{Next}
 use Rattle.block.specs.declared.CodecBlock.the-variants.{Coded}
 use Rattle.block.specs.declared.NameBlock.the-variants.{Named}
-use Rattle.block.specs.Blocks.{filename, andThen, markerBlock, tableBlock, codecBlock, nameBlock}
+use Rattle.block.specs.Blocks.{andThen, markerBlock, tableBlock, codecBlock, nameBlock}
 use Rattle.header.specs.declared.HeaderAnswer.{HeaderAnswer}
 use Rattle.header.specs.declared.HeaderAnswer.the-variants.{Read}
-use Rattle.header.specs.Headers.{mpegCodec, audioCodec, step7Audio, step7Video, step7Table, step7, step6, step5, step4, step3Audio, step3, step2, step1, headerOf}
-use Rattle.write_blocks.specs.Blocks.{bytes32, zeros, padding, blockOf}
+use Rattle.header.specs.Headers.{step7Audio, step7Video, step7Table, step7, step6, step5, step4, step3Audio, step3, step2, step1, headerOf}
+use Rattle.word.specs.Bytes.{bytes32, zeros, padding}
+use Rattle.write_blocks.specs.Blocks.{blockOf}
 use Rattle.write_blocks.specs.Tables.{markerOf, emptyTable, tableWith, nameTable, codecTable}
 use Rattle.write_plan.proofs.LengthLaws.{table-length, block-length}
 use Rattle.promises_write.specs.Promises.{CodecFits, nameStart}

@@ -35,10 +35,10 @@ use Rattle.lookup.specs.declared.Lookup.the-variants as lookup
 use Rattle.lookup.specs.Names.{spells}
 use Rattle.lookup.specs.Search.{searchFrom}
 use Rattle.lookup.specs.Lookups.{shifted, bodyCell, cellFrom, cellOf, lastCellOf}
-use Rattle.block.specs.Blocks.{filename}
-use Rattle.write_blocks.specs.Blocks.{bytes32}
+use Rattle.signature.specs.Signatures.{filename}
+use Rattle.word.specs.Bytes.{bytes32}
 use Rattle.write_blocks.specs.Tables.{emptyTable, tableHead, tableWith}
-use Rattle.write_blocks.proofs.NumberLaws.{whole32}
+use Rattle.word.proofs.NumberLaws.{whole32}
 use Rattle.write_plan.proofs.LengthLaws.{table-length}
 
 -- ---- a column's name

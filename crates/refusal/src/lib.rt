@@ -2,6 +2,9 @@
 ghost use mathlib.Core.Path.{_≡_};
 ghost use Rattle.refusal.specs.Numbers.{numberOf, besideOf};
 
+// The longest container that is read or written: a longer one is `TooLong`.
+pub const LONGEST: usize = 0x4000_0000;
+
 // Why. The cases stand in the order of their numbers: 1 to 13 and 15 to 23. 14 is struck: it cannot occur, and no
 // other cause has it.
 pub enum Cause {

@@ -11,6 +11,7 @@ ghost use Rattle.salvage.specs.Salvage.{how, cutAs, salvageFrom, salvage
 ghost use Rattle.salvage.specs.Fits.{fitted, fitIn, ifRead};
 use chunk::Chunk;
 use chunk::ChunkStep;
+use chunk::OPENING;
 use header::Header;
 use header::HeaderAnswer;
 use reading::Applied;
@@ -45,9 +46,6 @@ enum Fit {
     Whole,
     UpTo { place: usize, refusal: Refusal },
 }
-
-// The bytes that every chunk has.
-const OPENING: usize = 45;
 
 // The larger of two numbers.
 fn larger(m: usize, n: usize) -> usize

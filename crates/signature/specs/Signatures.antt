@@ -1,4 +1,4 @@
--- Rules H and C: the letters, as big-endian numbers, and the markers.
+-- Rules H and C: the letters, as big-endian numbers, the markers, and the names of columns.
 use Prim.Native.Nat.{ℕ}
 use mathlib.Core.List.{List, [], _∷_}
 use mathlib.Core.Bool.{Bool, true, false, _&&_}
@@ -25,6 +25,16 @@ metadataEnd = 0x23 ∷ 0x4D ∷ 0x45 ∷ 0x54 ∷ 0x41 ∷ 0x44 ∷ 0x41 ∷ 0x5
 
 abbrev pub contentsEnd : List ℕ
 contentsEnd = 0x23 ∷ 0x43 ∷ 0x4F ∷ 0x4E ∷ 0x54 ∷ 0x45 ∷ 0x4E ∷ 0x54 ∷ 0x53 ∷ 0x20 ∷ 0x45 ∷ 0x4E ∷ 0x44 ∷ []
+
+-- the names of the columns that a film's header is read from: `filename`, `mpeg_codec`, `audio_codec`
+abbrev pub filename : List ℕ
+filename = 0x66 ∷ 0x69 ∷ 0x6C ∷ 0x65 ∷ 0x6E ∷ 0x61 ∷ 0x6D ∷ 0x65 ∷ []
+
+abbrev pub mpegCodec : List ℕ
+mpegCodec = 0x6D ∷ 0x70 ∷ 0x65 ∷ 0x67 ∷ 0x5F ∷ 0x63 ∷ 0x6F ∷ 0x64 ∷ 0x65 ∷ 0x63 ∷ []
+
+abbrev pub audioCodec : List ℕ
+audioCodec = 0x61 ∷ 0x75 ∷ 0x64 ∷ 0x69 ∷ 0x6F ∷ 0x5F ∷ 0x63 ∷ 0x6F ∷ 0x64 ∷ 0x65 ∷ 0x63 ∷ []
 
 -- two lists of bytes are one
 unfoldable pub sameBytes : List ℕ → List ℕ → Bool

@@ -13,10 +13,8 @@ use list::ListReply;
 use list::Listed;
 use reading::AudioChoice;
 use refusal::Cause;
+use refusal::LONGEST;
 use refusal::Refusal;
-
-// A longer container is refused.
-const LONGEST: usize = 0x4000_0000;
 
 // The reply to a refusal of all that is asked, at place 0.
 fn refused(cause: Cause) -> ListReply

@@ -11,6 +11,9 @@ use chunk::Chunk;
 use chunk::ChunkStep;
 use chunk::Kind;
 use key::Keys;
+use mask::ROW;
+use mask::SHORTEST_VIDEO;
+use mask::TAIL;
 use reading::Applied;
 
 // Why the tenants of a group have one copy.
@@ -36,15 +39,6 @@ pub struct Place {
     pub stream: Stream,
     pub byte: usize,
 }
-
-// A shorter picture is not masked.
-const PICTURE: usize = 0x240;
-
-// From here on sound is masked.
-const TAIL: usize = 0x140;
-
-// The lanes of a row.
-const ROW: usize = 0x20;
 
 // Why those have one copy who have it with a key, on a film that shows as much of a key as a clip of so many bytes.
 pub fn why_one(tenants: &[[u64; 2]], bytes: usize, key: u64) -> Why
@@ -163,7 +157,7 @@ fn is_masked_in(stream: Stream, adx: bool, part: usize) -> bool
     ensures { λ r. ⌜ r ≡ isMaskedIn stream adx part ⌝ }
 {
     match stream {
-        Stream::Picture => PICTURE <= part,
+        Stream::Picture => SHORTEST_VIDEO <= part,
         Stream::Sound => adx,
     }
 }

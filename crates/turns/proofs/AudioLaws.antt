@@ -6,7 +6,7 @@ use mathlib.Core.Bool.{Bool, true, false}
 use native.Mathlib.Omega.{arith}
 use lib.ListN.{length, take, drop}
 use Rattle.word.specs.Numbers.{be32}
-use Rattle.write_blocks.proofs.NumberLaws.{whole32}
+use Rattle.word.proofs.NumberLaws.{whole32}
 use Rattle.turns.specs.declared.Track.{Track}
 use Rattle.turns.specs.declared.Track.the-variants.{Audio}
 use Rattle.turns.specs.declared.Form.the-variants.{Old}

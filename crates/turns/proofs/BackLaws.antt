@@ -13,8 +13,8 @@ use Rattle.laws.proofs.Side.{side}
 use Rattle.word.specs.Numbers.{be16, be32}
 use Rattle.part.specs.Parts.{partAt}
 use Rattle.signature.specs.Signatures.{sameBytes, standsAt}
-use Rattle.write_blocks.specs.Blocks.{bytes32, zeros, padding}
-use Rattle.write_blocks.proofs.NumberLaws.{whole32}
+use Rattle.word.specs.Bytes.{bytes32, zeros, padding}
+use Rattle.word.proofs.NumberLaws.{whole32}
 use Rattle.turns.specs.declared.Track.{Track}
 use Rattle.turns.specs.declared.Track.the-variants.{Video, Audio}
 use Rattle.turns.specs.declared.Form.{Form}

@@ -12,7 +12,7 @@ use borrow.Author.Tests.{le-leb, lt-leb, le-ltb, lt-ltb, ne-eqb}
 use Rattle.laws.proofs.Side.{side}
 use Rattle.part.specs.Parts.{partAt}
 use Rattle.signature.specs.Signatures.{contentsEnd, standsAt}
-use Rattle.write_blocks.specs.Blocks.{zeros}
+use Rattle.word.specs.Bytes.{zeros}
 use Rattle.turns.specs.declared.Track.{Track}
 use Rattle.turns.specs.declared.Track.the-variants.{Video}
 use Rattle.turns.specs.declared.Form.{Form}

@@ -9,7 +9,7 @@ use lib.ListN.{length, take, drop, length-drop, length-append}
 use lib.Seq.{take-all, length-take-le}
 use lib.Dec.{eqb}
 use Rattle.laws.proofs.Side.{side}
-use Rattle.write_blocks.specs.Blocks.{padding}
+use Rattle.word.specs.Bytes.{padding}
 use Rattle.turns.specs.declared.Track.{Track}
 use Rattle.turns.specs.declared.Track.the-variants.{Video, Audio}
 use Rattle.turns.specs.declared.Form.{Form}

@@ -7,7 +7,7 @@ use lib.Dec.{ltb, eqb}
 use Rattle.word.specs.Numbers.{be16, be32}
 use Rattle.part.specs.Parts.{partAt}
 use Rattle.signature.specs.Signatures.{SFV, SFA, contentsEnd, standsAt}
-use Rattle.write_blocks.specs.Blocks.{bytes32, zeros, padding}
+use Rattle.word.specs.Bytes.{bytes32, zeros, padding}
 use Rattle.turns.specs.declared.Track.{Track}
 use Rattle.turns.specs.declared.Track.the-variants.{Video, Audio}
 use Rattle.turns.specs.declared.Form.{Form}

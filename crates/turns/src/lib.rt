@@ -8,9 +8,11 @@ ghost use mathlib.Core.List.{[]};
 ghost use mathlib.Core.Bool.{true, _||_};
 ghost use Rattle.part.specs.Parts.{partAt, PartAt};
 ghost use Rattle.signature.specs.Signatures.{standsAt};
-ghost use Rattle.write_blocks.specs.Blocks.{zeros};
+ghost use Rattle.word.specs.Bytes.{zeros};
 ghost use Rattle.turns.specs.Chunks.{lettersIn, numberOf, shapeOf, headBy, laidBy, chunkSize, lenIn, gapOf, isEnd, payloadIn, seenAs};
 ghost use Rattle.turns.specs.Turns.{streamSize, seenIn, heardIn, readIn, turnBy, turnsBy};
+use write_blocks::CHUNK;
+use write_blocks::PAYLOAD;
 // The container that chunks lie in: the old builder's, or request 1's.
 pub enum Form {
     Old,
@@ -22,12 +24,6 @@ pub enum Track {
     Video,
     Audio(u32),
 }
-
-// The longest payload.
-const PAYLOAD: usize = 0x10000;
-
-// The size of its chunk, in either container.
-const CHUNK: usize = 0x10020;
 
 // What is particular to a chunk: its numbers, how many zeros stand before the payload, and how many after it.
 pub struct Shape {
@@ -94,10 +90,10 @@ pub fn shape_of(form: Form, track: Track, from: usize, len: u32) -> Shape
             from,
             number: number_of(track),
             gap: 0,
-            pads: write_blocks::padding(28 + len),
+            pads: word::padding(28 + len),
         },
         Form::New => {
-            let pads = write_blocks::padding(len);
+            let pads = word::padding(len);
             Shape {
                 letters,
                 size: 0x18 + len + pads,

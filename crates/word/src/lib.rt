@@ -1,4 +1,4 @@
-// Bytes and big-endian numbers at a place of a slice. A byte past the end reads as 0, so every place has an answer:
+// Bytes and big-endian numbers at a place of a slice, numbers as bytes, and padding. A byte past the end reads as 0, so every place has an answer:
 // whether enough bytes are there is another question, which `left_from` answers.
 // Rules T: "Big-endian throughout." From the Rust: the reads of `reader.rs`.
 ghost use mathlib.Core.Path.{_≡_};
@@ -6,6 +6,10 @@ ghost use Prim.Native.Nat.{_+_, _-_, _≤_, _<_, _^_};
 ghost use lib.ListN.{length};
 ghost use Rattle.laws.specs.Lists.{at};
 ghost use Rattle.word.specs.Numbers.{be16, be32, be64};
+ghost use Rattle.word.specs.Bytes.{bytes32, padding};
+
+// What is padded with zeros is padded to a multiple of this.
+const ROUND: usize = 0x20;
 
 // How many bytes a slice has from a place on.
 pub fn left_from(bytes: &[u8], place: usize) -> usize
@@ -74,4 +78,23 @@ pub fn read64(bytes: &[u8], place: usize) -> usize
         return read32(bytes, place) * 0x1_0000_0000;
     }
     read32(bytes, place) * 0x1_0000_0000 + read32(bytes, place + 4)
+}
+
+// How many bytes are missing to a multiple of 0x20.
+pub fn padding(len: usize) -> usize
+    ensures { λ r. ⌜ r ≡ padding len ⌝ }
+{
+    (ROUND - len % ROUND) % ROUND
+}
+
+// A number's four bytes, the highest first.
+pub fn bytes32(number: u32) -> [u8; 4]
+    ensures { λ r. ⌜ r ≡ bytes32 number ⌝ }
+{
+    [
+        (number / 0x1000000 % 256) as u8,
+        (number / 0x10000 % 256) as u8,
+        (number / 0x100 % 256) as u8,
+        (number % 256) as u8,
+    ]
 }

@@ -6,7 +6,8 @@ use native.Mathlib.Omega.{arith}
 use lib.ListN.{length, take, length-replicate}
 use Rattle.laws.specs.Outputs.{Put}
 use Rattle.laws.proofs.PutLaws.{Left, all-left, less-left, left-fits, next-fits, put-then}
-use Rattle.write_blocks.specs.Blocks.{zeros, padding, headOf, blockOf}
+use Rattle.word.specs.Bytes.{zeros, padding}
+use Rattle.write_blocks.specs.Blocks.{headOf, blockOf}
 use Rattle.write_plan.proofs.LengthLaws.{block-length}
 
 -- ---- zeros, as a part of 32

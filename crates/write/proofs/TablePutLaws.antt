@@ -6,11 +6,11 @@ use native.Mathlib.Omega.{arith}
 use lib.ListN.{length}
 use Rattle.laws.specs.Outputs.{Put}
 use Rattle.laws.proofs.PutLaws.{Left, all-left, less-left, left-fits, next-fits, put-then}
-use Rattle.signature.specs.Signatures.{CRID}
+use Rattle.signature.specs.Signatures.{CRID, filename}
 use Rattle.codec.specs.declared.Codec.{Codec}
 use Rattle.codec.specs.declared.Codec.the-variants.{Value, Absent}
-use Rattle.block.specs.Blocks.{filename}
-use Rattle.write_blocks.specs.Blocks.{bytes32, blockOf}
+use Rattle.word.specs.Bytes.{bytes32}
+use Rattle.write_blocks.specs.Blocks.{blockOf}
 use Rattle.write_blocks.specs.Tables.{emptyTable, tableHead, tableWith, nameTable, codecTable}
 use Rattle.write_plan.proofs.LengthLaws.{table-length}
 

@@ -6,7 +6,8 @@ ghost use Prim.Native.Nat.{_+_, _≤_, _<_, _^_, max};
 ghost use lib.ListN.{length, drop};
 ghost use lib.Seq.{sets};
 ghost use Rattle.laws.specs.Outputs.{Put};
-ghost use Rattle.write_blocks.specs.Blocks.{zeros, padding, headOf, blockOf};
+ghost use Rattle.word.specs.Bytes.{zeros, padding};
+ghost use Rattle.write_blocks.specs.Blocks.{headOf, blockOf};
 ghost use Rattle.write_blocks.specs.Tables.{tableWith, codecTable};
 ghost use Rattle.write_plan.specs.Payloads.{storedAs};
 ghost use Rattle.write_plan.specs.Films.{lettersOf, bytesOf, inEach, codecIn, headerBlocks, nextChunk, chunkBlocks, filmBytes};
@@ -43,7 +44,7 @@ fn put_padding(out: &mut [u8], at: usize, len: usize) -> usize
     requires { ⌜ at + padding len ≤ length (now out) ⌝ }
     ensures { λ r. ⌜ Put (zeros (padding len)) (now (out .entry)) at (now (out .exit)) r ⌝ }
 {
-    let count = write_blocks::padding(len);
+    let count = word::padding(len);
     let none = [0u8; 32];
     put(out, at, &none[..count])
 }
@@ -113,7 +114,7 @@ fn put_codec(out: &mut [u8], at: usize, letters: usize, column: &[u8], codec: Co
 {
     match codec {
         Codec::Value(number) => {
-            let cell = write_blocks::bytes32(number);
+            let cell = word::bytes32(number);
             put_table_block(out, at, letters, CODEC, column, &cell, b"")
         }
         Codec::Absent => put_block(
@@ -296,7 +297,7 @@ fn put_chunks(
         let middle = put_next(out, at, Stream::Video, video, from, unmasking);
         let end = put_next(out, middle, Stream::Audio, audio, from, unmasking);
         at = end;
-        from += write_plan::PAYLOAD;
+        from += write_blocks::PAYLOAD;
     }
     at
 }

@@ -1,17 +1,9 @@
 -- No second answer meets a contract of this crate: what a caller learns makes two results one. Assumes nothing.
 use mathlib.Core.Path.{_≡_}
 use Rattle.laws.proofs.OneAnswer.{no-second-answer}
-use Rattle.write_blocks.proofs.padding.Reads as padding
-use Rattle.write_blocks.proofs.bytes32.Reads as bytes32
 use Rattle.write_blocks.proofs.name_cell.Reads as name-cell
 use Rattle.write_blocks.proofs.block_head.Reads as block-head
 use Rattle.write_blocks.proofs.table_head.Reads as table-head
-
-pub padding-once : (κs : _) (args : _) (r r′ : _) (exit exit′ : _) → padding.Learnt κs args r exit → padding.Learnt κs args r′ exit′ → r ≡ r′
-padding-once κs args r r′ exit exit′ = no-second-answer
-
-pub bytes32-once : (κs : _) (args : _) (r r′ : _) (exit exit′ : _) → bytes32.Learnt κs args r exit → bytes32.Learnt κs args r′ exit′ → r ≡ r′
-bytes32-once κs args r r′ exit exit′ = no-second-answer
 
 pub name-cell-once : (κs : _) (args : _) (r r′ : _) (exit exit′ : _) → name-cell.Learnt κs args r exit → name-cell.Learnt κs args r′ exit′ → r ≡ r′
 name-cell-once κs args r r′ exit exit′ = no-second-answer

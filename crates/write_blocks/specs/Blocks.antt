@@ -1,21 +1,8 @@
 -- Rules W1 and W2: a block as it is written. Blocks of the header, chunks with a payload and end chunks are all of this form.
-use Prim.Native.Nat.{ℕ, _+_, _-_, _/_, _%_, _^_}
-use mathlib.Core.List.{List, [], _∷_, _++_}
-use lib.ListN.{length, replicate}
-
--- numbers, "big-endian throughout"
-abbrev pub bytes16 : ℕ → List ℕ
-bytes16 n = n / 2 ^ 8 % 2 ^ 8 ∷ n % 2 ^ 8 ∷ []
-
-abbrev pub bytes32 : ℕ → List ℕ
-bytes32 n = n / 2 ^ 24 % 2 ^ 8 ∷ n / 2 ^ 16 % 2 ^ 8 ∷ n / 2 ^ 8 % 2 ^ 8 ∷ n % 2 ^ 8 ∷ []
-
-abbrev pub zeros : ℕ → List ℕ
-zeros n = replicate n 0
-
--- "zero padding to a multiple of 0x20": what n bytes lack
-abbrev pub padding : ℕ → ℕ
-padding n = (0x20 - n % 0x20) % 0x20
+use Prim.Native.Nat.{ℕ, _+_}
+use mathlib.Core.List.{List, _++_}
+use lib.ListN.{length}
+use Rattle.word.specs.Bytes.{bytes16, bytes32, zeros, padding}
 
 -- the 0x20 bytes before the n that a block holds: letters, block size, "header size 0x18", "footer counting zero padding". The rest is zero, "data type is 0" too
 unfoldable pub headOf : ℕ → ℕ → List ℕ

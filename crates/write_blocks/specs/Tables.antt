@@ -4,8 +4,8 @@ use mathlib.Core.List.{List, [], _∷_, _++_}
 use lib.ListN.{length}
 use Rattle.codec.specs.declared.Codec.{Codec}
 use Rattle.codec.specs.declared.Codec.the-variants.{Value, Absent}
-use Rattle.block.specs.Blocks.{filename}
-use Rattle.write_blocks.specs.Blocks.{bytes16, bytes32, zeros}
+use Rattle.signature.specs.Signatures.{filename}
+use Rattle.word.specs.Bytes.{bytes16, bytes32, zeros}
 
 -- a marker: its letters, and zeros up to 0x20 bytes
 abbrev pub markerOf : List ℕ → List ℕ

@@ -3,36 +3,20 @@
 ghost use mathlib.Core.Path.{_≡_};
 ghost use Prim.Native.Nat.{_+_};
 ghost use mathlib.Core.List.{_++_};
-ghost use Rattle.write_blocks.specs.Blocks.{bytes32, padding, headOf};
+ghost use Rattle.word.specs.Bytes.{bytes32};
+ghost use Rattle.write_blocks.specs.Blocks.{headOf};
 ghost use Rattle.write_blocks.specs.Tables.{tableHead};
 
-// What is padded with zeros is padded to a multiple of this.
-const ROUND: usize = 0x20;
+// The longest payload, and the size of its chunk, in both containers.
+pub const PAYLOAD: usize = 0x10000;
+
+pub const CHUNK: usize = 0x10020;
 
 // The header size that a block claims.
 const HEADER: usize = 0x18;
 
 // The place of a table's rows: its body begins at place 24, and the column's record has 5 bytes.
 const ROWS: usize = 29;
-
-// How many bytes are missing to a multiple of 0x20.
-pub fn padding(len: usize) -> usize
-    ensures { λ r. ⌜ r ≡ padding len ⌝ }
-{
-    (ROUND - len % ROUND) % ROUND
-}
-
-// A number's four bytes, the highest first.
-pub fn bytes32(number: u32) -> [u8; 4]
-    ensures { λ r. ⌜ r ≡ bytes32 number ⌝ }
-{
-    [
-        (number / 0x1000000 % 256) as u8,
-        (number / 0x10000 % 256) as u8,
-        (number / 0x100 % 256) as u8,
-        (number % 256) as u8,
-    ]
-}
 
 // The cell of a name of so many bytes: data at offset 0, and its size.
 pub fn name_cell(len: u32) -> [u8; 8]
@@ -54,7 +38,7 @@ pub fn name_cell(len: u32) -> [u8; 8]
 pub fn block_head(letters: usize, len: u32) -> [u8; 32]
     ensures { λ r. ⌜ r ≡ headOf letters len ⌝ }
 {
-    let pad = padding(len as usize);
+    let pad = word::padding(len as usize);
     let size = HEADER + len as usize + pad;
     [
         (letters / 0x1000000 % 256) as u8,

@@ -6,7 +6,8 @@ use mathlib.Core.Bool.{false}
 use lib.ListN.{length}
 use Rattle.codec.specs.declared.Codec.the-variants.{Absent}
 use Rattle.unmasking.specs.declared.Key.the-variants as key
-use Rattle.write_blocks.specs.Blocks.{zeros, headOf, blockOf}
+use Rattle.word.specs.Bytes.{zeros}
+use Rattle.write_blocks.specs.Blocks.{headOf, blockOf}
 use Rattle.write_blocks.specs.Tables.{tableHead, tableWith, nameTable, codecTable}
 use Rattle.write_plan.specs.declared.Packing.{Packing}
 use Rattle.write_plan.specs.Payloads.{cut, payloadsOf, byTurns}

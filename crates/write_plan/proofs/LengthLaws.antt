@@ -9,13 +9,13 @@ use lib.ListN.{length, take, drop, length-append, length-drop, length-replicate}
 use lib.Seq.{length-take-le, take-all}
 use borrow.Author.Tests.{ne-eqb}
 use Rattle.laws.proofs.Side.{side}
-use Rattle.signature.specs.Signatures.{CRID, SFV, SFA, headerEnd, metadataEnd, contentsEnd}
+use Rattle.signature.specs.Signatures.{CRID, SFV, SFA, headerEnd, metadataEnd, contentsEnd, mpegCodec, audioCodec}
 use Rattle.codec.specs.declared.Codec.{Codec}
 use Rattle.codec.specs.declared.Codec.the-variants.{Value, Absent}
-use Rattle.header.specs.Headers.{mpegCodec, audioCodec}
 use Rattle.unmasking.specs.declared.Unmasking.{Unmasking}
 use Rattle.unmasking.specs.Unmasking.{unmaskingOf}
-use Rattle.write_blocks.specs.Blocks.{zeros, padding, headOf, blockOf}
+use Rattle.word.specs.Bytes.{zeros, padding}
+use Rattle.write_blocks.specs.Blocks.{headOf, blockOf}
 use Rattle.write_blocks.specs.Tables.{tableHead, tableWith, markerOf, emptyTable, nameTable, codecTable}
 use Rattle.write_plan.specs.declared.Stream.{Stream}
 use Rattle.write_plan.specs.declared.Stream.the-variants.{Video, Audio}

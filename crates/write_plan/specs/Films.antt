@@ -3,8 +3,7 @@ use Prim.Native.Nat.{ℕ}
 use mathlib.Core.List.{List, [], _∷_, _++_, map}
 use mathlib.Core.Bool.{Bool, cond}
 use lib.ListN.{take}
-use Rattle.signature.specs.Signatures.{CRID, SFV, SFA, headerEnd, metadataEnd, contentsEnd}
-use Rattle.header.specs.Headers.{mpegCodec, audioCodec}
+use Rattle.signature.specs.Signatures.{CRID, SFV, SFA, headerEnd, metadataEnd, contentsEnd, mpegCodec, audioCodec}
 use Rattle.unmasking.specs.declared.Unmasking.{Unmasking}
 use Rattle.unmasking.specs.Unmasking.{unmaskingOf}
 use Rattle.write_blocks.specs.Blocks.{blockOf}

@@ -4,7 +4,7 @@ use mathlib.Core.Bool.{cond}
 use lib.Dec.{eqb}
 use Rattle.codec.specs.declared.Codec.{Codec}
 use Rattle.codec.specs.declared.Codec.the-variants.{Value, Absent}
-use Rattle.write_blocks.specs.Blocks.{padding}
+use Rattle.word.specs.Bytes.{padding}
 use Rattle.write_plan.specs.declared.Packing.{Packing}
 
 -- a block that holds n bytes

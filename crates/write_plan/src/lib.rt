@@ -12,8 +12,11 @@ ghost use Rattle.write_plan.specs.Planning.{isGiven, anyMarked, measured
 use codec::Codec;
 use lent::Written;
 use refusal::Cause;
+use refusal::LONGEST;
 use refusal::Refusal;
 use unmasking::Key;
+use write_blocks::CHUNK;
+use write_blocks::PAYLOAD;
 
 // How a film is packed: whether there is audio, both codecs, and the key that masks.
 pub struct Packing {
@@ -35,21 +38,12 @@ enum Measured {
     Over,
 }
 
-// The longest container.
-const LONGEST: usize = 0x40000000;
-
-// The longest payload.
-pub const PAYLOAD: usize = 0x10000;
-
-// The size of a chunk with the longest payload.
-const CHUNK: usize = 0x10020;
-
 // The size of a block that holds `len` bytes.
 fn block_size(len: usize) -> usize
     requires { ⌜ len < 2 ^ 32 ⌝ }
     ensures { λ r. ⌜ r ≡ blockSize len ⌝ }
 {
-    0x20 + len + write_blocks::padding(len)
+    0x20 + len + word::padding(len)
 }
 
 // The size of a block with a codec's table.
