@@ -9,8 +9,8 @@ use lib.Seq.{drop-drop, drop-at}
 use Rattle.word.specs.Numbers.{be32}
 use Rattle.part.specs.Parts.{partAt}
 use Rattle.signature.specs.Signatures.{CRID, SFV, SFA, sameBytes, standsAt}
-use Rattle.write_blocks.specs.Blocks.{bytes32}
-use Rattle.write_blocks.proofs.NumberLaws.{whole32}
+use Rattle.word.specs.Bytes.{bytes32}
+use Rattle.word.proofs.NumberLaws.{whole32}
 use Rattle.turns.specs.declared.Track.{Track}
 use Rattle.turns.specs.declared.Track.the-variants.{Video, Audio}
 use Rattle.turns.specs.declared.Form.the-variants.{Old}

@@ -12,7 +12,7 @@ use Rattle.laws.proofs.Side.{side}
 use Rattle.word.specs.Numbers.{be32}
 use Rattle.part.specs.Parts.{partAt}
 use Rattle.signature.specs.Signatures.{CRID, SFV, SFA, sameBytes, standsAt}
-use Rattle.write_blocks.specs.Blocks.{zeros, padding}
+use Rattle.word.specs.Bytes.{zeros, padding}
 use Rattle.utf8.specs.Utf8.{isUtf8}
 use Rattle.turns.specs.declared.Track.the-variants.{Video, Audio}
 use Rattle.turns.specs.declared.Form.the-variants.{Old}

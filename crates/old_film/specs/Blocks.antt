@@ -2,7 +2,7 @@
 use Prim.Native.Nat.{ℕ, _+_}
 use mathlib.Core.List.{List, _++_}
 use lib.ListN.{length}
-use Rattle.write_blocks.specs.Blocks.{bytes16, bytes32, zeros, padding}
+use Rattle.word.specs.Bytes.{bytes16, bytes32, zeros, padding}
 
 -- `@END`
 abbrev pub END : ℕ

@@ -8,7 +8,7 @@ use Rattle.word.specs.Numbers.{be32}
 use Rattle.part.specs.Parts.{partAt}
 use Rattle.signature.specs.Signatures.{CRID, SFV, SFA, sameBytes, standsAt}
 use Rattle.utf8.specs.Utf8.{isUtf8}
-use Rattle.write_blocks.specs.Blocks.{zeros, padding}
+use Rattle.word.specs.Bytes.{zeros, padding}
 use Rattle.turns.specs.declared.Form.the-variants.{Old}
 use Rattle.turns.specs.Turns.{Read, readIn, turnsBy}
 use Rattle.old_film.specs.declared.OldFilm.{OldFilm}

@@ -2,7 +2,7 @@
 use Prim.Native.Nat.{ℕ, _+_, _/_}
 use mathlib.Core.List.{List, [], _∷_, _++_}
 use lib.ListN.{length}
-use Rattle.write_blocks.specs.Blocks.{bytes16, bytes32}
+use Rattle.word.specs.Bytes.{bytes16, bytes32}
 use Rattle.write_blocks.specs.Tables.{UTF}
 
 -- a table's 32 bytes: its size, version 1, where rows, strings and data stand, its name at 0, columns, row size, and one row

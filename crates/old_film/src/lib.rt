@@ -9,7 +9,7 @@ ghost use lib.ListN.{length, drop};
 ghost use Rattle.word.specs.Numbers.{be32};
 ghost use Rattle.part.specs.Parts.{PartAt};
 ghost use Rattle.signature.specs.Signatures.{CRID, SFV, SFA, standsAt};
-ghost use Rattle.write_blocks.specs.Blocks.{zeros, padding};
+ghost use Rattle.word.specs.Bytes.{zeros, padding};
 ghost use Rattle.old_film.specs.Blocks.{oldHead, tableBlock, endBlock};
 ghost use Rattle.old_film.specs.Tables.{nameStart, oldVideo, oldAudio};
 ghost use Rattle.old_film.specs.Finding.{nameSize, audioCount, closesWith, standsAround, foundIn};
@@ -50,104 +50,21 @@ pub fn name_head(len: u32) -> [u8; 96]
     let size = 89 + len as usize;
     let table = 61 + len as usize;
     let blobs = 57 + len as usize;
-    [
-        0x43,
-        0x52,
-        0x49,
-        0x44,
-        (size / 0x1000000 % 256) as u8,
-        (size / 0x10000 % 256) as u8,
-        (size / 0x100 % 256) as u8,
-        (size % 256) as u8,
-        0,
-        1,
-        0,
-        0x18,
-        0,
-        0,
-        0,
-        0,
-        0,
-        0,
-        0,
-        0,
-        0,
-        0,
-        0,
-        0,
-        0,
-        0,
-        0,
-        0,
-        0x40,
-        0x55,
-        0x54,
-        0x46,
-        (table / 0x1000000 % 256) as u8,
-        (table / 0x10000 % 256) as u8,
-        (table / 0x100 % 256) as u8,
-        (table % 256) as u8,
-        0,
-        1,
-        0,
-        0x19,
-        0,
-        0,
-        0,
-        0x1d,
-        (blobs / 0x1000000 % 256) as u8,
-        (blobs / 0x10000 % 256) as u8,
-        (blobs / 0x100 % 256) as u8,
-        (blobs % 256) as u8,
-        0,
-        0,
-        0,
-        0,
-        0,
-        1,
-        0,
-        4,
-        0,
-        0,
-        0,
-        1,
-        0x5A,
-        0,
-        0,
-        0,
-        0x12,
-        0,
-        0,
-        0,
-        0x1b,
-        0x43,
-        0x52,
-        0x49,
-        0x55,
-        0x53,
-        0x46,
-        0x5f,
-        0x44,
-        0x49,
-        0x52,
-        0x5f,
-        0x53,
-        0x54,
-        0x52,
-        0x45,
-        0x41,
-        0x4d,
-        0,
-        0x66,
-        0x69,
-        0x6c,
-        0x65,
-        0x6e,
-        0x61,
-        0x6d,
-        0x65,
-        0,
-    ]
+    let mut head =
+        *b"CRID\0\0\0\0\0\x01\0\x18\0\0\0\0\0\0\0\0\0\0\0\0\0\0\0\0@UTF\0\0\0\0\0\x01\0\x19\0\0\0\x1d\0\0\0\0\0\0\0\0\0\x01\0\x04\0\0\0\x01\x5a\0\0\0\x12\0\0\0\x1bCRIUSF_DIR_STREAM\0filename\0";
+    head[4] = (size / 0x1000000 % 256) as u8;
+    head[5] = (size / 0x10000 % 256) as u8;
+    head[6] = (size / 0x100 % 256) as u8;
+    head[7] = (size % 256) as u8;
+    head[32] = (table / 0x1000000 % 256) as u8;
+    head[33] = (table / 0x10000 % 256) as u8;
+    head[34] = (table / 0x100 % 256) as u8;
+    head[35] = (table % 256) as u8;
+    head[44] = (blobs / 0x1000000 % 256) as u8;
+    head[45] = (blobs / 0x10000 % 256) as u8;
+    head[46] = (blobs / 0x100 % 256) as u8;
+    head[47] = (blobs % 256) as u8;
+    head
 }
 
 // The block of a video of `len` bytes.
@@ -155,240 +72,26 @@ pub fn video_block(len: usize) -> [u8; 128]
     ensures { λ r. ⌜ r ≡ tableBlock SFV (oldVideo len) ⌝ }
 {
     let frames = len / 1000;
-    [
-        0x40,
-        0x53,
-        0x46,
-        0x56,
-        0,
-        0,
-        0,
-        0x77,
-        0,
-        1,
-        0,
-        0x18,
-        0,
-        0,
-        0,
-        0,
-        0,
-        0,
-        0,
-        0,
-        0,
-        0,
-        0,
-        0,
-        0,
-        0,
-        0,
-        0,
-        0x40,
-        0x55,
-        0x54,
-        0x46,
-        0,
-        0,
-        0,
-        0x5b,
-        0,
-        1,
-        0,
-        0x1f,
-        0,
-        0,
-        0,
-        0x2b,
-        0,
-        0,
-        0,
-        0x53,
-        0,
-        0,
-        0,
-        0,
-        0,
-        3,
-        0,
-        0xc,
-        0,
-        0,
-        0,
-        1,
-        0x54,
-        0,
-        0,
-        0,
-        0xe,
-        0x54,
-        0,
-        0,
-        0,
-        0x14,
-        0x54,
-        0,
-        0,
-        0,
-        0x1b,
-        0,
-        0,
-        7,
-        0x80,
-        0,
-        0,
-        4,
-        0x38,
-        (frames / 0x1000000 % 256) as u8,
-        (frames / 0x10000 % 256) as u8,
-        (frames / 0x100 % 256) as u8,
-        (frames % 256) as u8,
-        0x56,
-        0x49,
-        0x44,
-        0x45,
-        0x4f,
-        0x5f,
-        0x48,
-        0x44,
-        0x52,
-        0x49,
-        0x4e,
-        0x46,
-        0x4f,
-        0,
-        0x77,
-        0x69,
-        0x64,
-        0x74,
-        0x68,
-        0,
-        0x68,
-        0x65,
-        0x69,
-        0x67,
-        0x68,
-        0x74,
-        0,
-        0x74,
-        0x6f,
-        0x74,
-        0x61,
-        0x6c,
-        0x5f,
-        0x66,
-        0x72,
-        0x61,
-        0x6d,
-        0x65,
-        0x73,
-        0,
-        0,
-    ]
+    let mut block =
+        *b"@SFV\0\0\0\x77\0\x01\0\x18\0\0\0\0\0\0\0\0\0\0\0\0\0\0\0\0@UTF\0\0\0\x5b\0\x01\0\x1f\0\0\0\x2b\0\0\0\x53\0\0\0\0\0\x03\0\x0c\0\0\0\x01\x54\0\0\0\x0e\x54\0\0\0\x14\x54\0\0\0\x1b\0\0\x07\x80\0\0\x04\x38\0\0\0\0VIDEO_HDRINFO\0width\0height\0total_frames\0\0";
+    block[83] = (frames / 0x1000000 % 256) as u8;
+    block[84] = (frames / 0x10000 % 256) as u8;
+    block[85] = (frames / 0x100 % 256) as u8;
+    block[86] = (frames % 256) as u8;
+    block
 }
 
 // The block of an audio, by its number.
 pub fn audio_block(number: u32) -> [u8; 96]
     ensures { λ r. ⌜ r ≡ tableBlock SFA (oldAudio number) ⌝ }
 {
-    [
-        0x40,
-        0x53,
-        0x46,
-        0x41,
-        0,
-        0,
-        0,
-        0x55,
-        0,
-        1,
-        0,
-        0x18,
-        0,
-        0,
-        0,
-        0,
-        0,
-        0,
-        0,
-        0,
-        0,
-        0,
-        0,
-        0,
-        0,
-        0,
-        0,
-        0,
-        0x40,
-        0x55,
-        0x54,
-        0x46,
-        0,
-        0,
-        0,
-        0x39,
-        0,
-        1,
-        0,
-        0x10,
-        0,
-        0,
-        0,
-        0x14,
-        0,
-        0,
-        0,
-        0x30,
-        0,
-        0,
-        0,
-        0,
-        0,
-        1,
-        0,
-        4,
-        0,
-        0,
-        0,
-        1,
-        0x54,
-        0,
-        0,
-        0,
-        0xe,
-        (number / 0x1000000 % 256) as u8,
-        (number / 0x10000 % 256) as u8,
-        (number / 0x100 % 256) as u8,
-        (number % 256) as u8,
-        0x41,
-        0x55,
-        0x44,
-        0x49,
-        0x4f,
-        0x5f,
-        0x48,
-        0x44,
-        0x52,
-        0x49,
-        0x4e,
-        0x46,
-        0x4f,
-        0,
-        0x73,
-        0x74,
-        0x72,
-        0x65,
-        0x61,
-        0x6d,
-        0x5f,
-        0x69,
-        0x64,
-        0,
-        0,
-        0,
-        0,
-    ]
+    let mut block =
+        *b"@SFA\0\0\0\x55\0\x01\0\x18\0\0\0\0\0\0\0\0\0\0\0\0\0\0\0\0@UTF\0\0\0\x39\0\x01\0\x10\0\0\0\x14\0\0\0\x30\0\0\0\0\0\x01\0\x04\0\0\0\x01\x54\0\0\0\x0e\0\0\0\0AUDIO_HDRINFO\0stream_id\0\0\0\0";
+    block[65] = (number / 0x1000000 % 256) as u8;
+    block[66] = (number / 0x10000 % 256) as u8;
+    block[67] = (number / 0x100 % 256) as u8;
+    block[68] = (number % 256) as u8;
+    block
 }
 
 // Whether the audio's block stands at a place.
@@ -412,7 +115,7 @@ pub fn name_size(len: u32) -> usize
     ensures { λ r. ⌜ r ≡ nameSize len ⌝ }
 {
     let len = len as usize;
-    97 + len + write_blocks::padding(97 + len)
+    97 + len + word::padding(97 + len)
 }
 
 // How many audios there are, of which there is one or none.
@@ -443,7 +146,7 @@ fn name_stands(container: &[u8], len: u32) -> bool
     if signature::stands_at(&head, container, 0) {
         let none = [0u8; 33];
         let len = len as usize;
-        let count = 1 + write_blocks::padding(97 + len);
+        let count = 1 + word::padding(97 + len);
         return signature::stands_at(&none[..count], container, NAME + len);
     }
     false

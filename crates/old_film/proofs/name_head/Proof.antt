@@ -1,4 +1,4 @@
--- `old_film::name_head` meets its contract: it is the definition's list. Assumes nothing.
+-- `old_film::name_head` meets its contract: the bytes that are stored into the constant make it the definition's list. Assumes nothing.
 use mathlib.Core.Path.{refl}
 use Rattle.old_film.specs.Blocks.{oldHead}
 use borrow.Author.Needs.{needs}
@@ -14,41 +14,77 @@ add-table c = search needs
 add-blobs : tie.Need-add-blobs
 add-blobs c = search needs
 
-cast-t7 : tie.Need-cast-t7
-cast-t7 c = search needs
+cast-head : tie.Need-cast-head
+cast-head c = search needs
 
-cast-t10 : tie.Need-cast-t10
-cast-t10 c = search needs
+array-write-head : tie.Need-array-write-head
+array-write-head c = search needs
 
-cast-t13 : tie.Need-cast-t13
-cast-t13 c = search needs
+cast-head-2 : tie.Need-cast-head-2
+cast-head-2 c = search needs
 
-cast-t15 : tie.Need-cast-t15
-cast-t15 c = search needs
+array-write-head-2 : tie.Need-array-write-head-2
+array-write-head-2 c = search needs
 
-cast-t18 : tie.Need-cast-t18
-cast-t18 c = search needs
+cast-head-3 : tie.Need-cast-head-3
+cast-head-3 c = search needs
 
-cast-t21 : tie.Need-cast-t21
-cast-t21 c = search needs
+array-write-head-3 : tie.Need-array-write-head-3
+array-write-head-3 c = search needs
 
-cast-t24 : tie.Need-cast-t24
-cast-t24 c = search needs
+cast-head-4 : tie.Need-cast-head-4
+cast-head-4 c = search needs
 
-cast-t26 : tie.Need-cast-t26
-cast-t26 c = search needs
+array-write-head-4 : tie.Need-array-write-head-4
+array-write-head-4 c = search needs
 
-cast-t29 : tie.Need-cast-t29
-cast-t29 c = search needs
+cast-head-5 : tie.Need-cast-head-5
+cast-head-5 c = search needs
 
-cast-t32 : tie.Need-cast-t32
-cast-t32 c = search needs
+array-write-head-5 : tie.Need-array-write-head-5
+array-write-head-5 c = search needs
 
-cast-t35 : tie.Need-cast-t35
-cast-t35 c = search needs
+cast-head-6 : tie.Need-cast-head-6
+cast-head-6 c = search needs
 
-cast-t37 : tie.Need-cast-t37
-cast-t37 c = search needs
+array-write-head-6 : tie.Need-array-write-head-6
+array-write-head-6 c = search needs
+
+cast-head-7 : tie.Need-cast-head-7
+cast-head-7 c = search needs
+
+array-write-head-7 : tie.Need-array-write-head-7
+array-write-head-7 c = search needs
+
+cast-head-8 : tie.Need-cast-head-8
+cast-head-8 c = search needs
+
+array-write-head-8 : tie.Need-array-write-head-8
+array-write-head-8 c = search needs
+
+cast-head-9 : tie.Need-cast-head-9
+cast-head-9 c = search needs
+
+array-write-head-9 : tie.Need-array-write-head-9
+array-write-head-9 c = search needs
+
+cast-head-10 : tie.Need-cast-head-10
+cast-head-10 c = search needs
+
+array-write-head-10 : tie.Need-array-write-head-10
+array-write-head-10 c = search needs
+
+cast-head-11 : tie.Need-cast-head-11
+cast-head-11 c = search needs
+
+array-write-head-11 : tie.Need-array-write-head-11
+array-write-head-11 c = search needs
+
+cast-head-12 : tie.Need-cast-head-12
+cast-head-12 c = search needs
+
+array-write-head-12 : tie.Need-array-write-head-12
+array-write-head-12 c = search needs
 
 returns : tie.Need-returns
 unfolding oldHead
@@ -61,16 +97,28 @@ name-head-spec =
     add-size
     add-table
     add-blobs
-    cast-t7
-    cast-t10
-    cast-t13
-    cast-t15
-    cast-t18
-    cast-t21
-    cast-t24
-    cast-t26
-    cast-t29
-    cast-t32
-    cast-t35
-    cast-t37
+    cast-head
+    array-write-head
+    cast-head-2
+    array-write-head-2
+    cast-head-3
+    array-write-head-3
+    cast-head-4
+    array-write-head-4
+    cast-head-5
+    array-write-head-5
+    cast-head-6
+    array-write-head-6
+    cast-head-7
+    array-write-head-7
+    cast-head-8
+    array-write-head-8
+    cast-head-9
+    array-write-head-9
+    cast-head-10
+    array-write-head-10
+    cast-head-11
+    array-write-head-11
+    cast-head-12
+    array-write-head-12
     returns)
