@@ -1,5 +1,4 @@
 // The lines that are written: what our functions answer on a container, extracted or listed.
-use crate::lists;
 use codec::AudioKind;
 use codec::Codec;
 use codec::VideoKind;
@@ -7,6 +6,7 @@ use extract::Contents;
 use extract::Extracted;
 use film_name::Name;
 use list::ChunkRecord;
+use list::Plan;
 use print_line::Line;
 use reading::Reading;
 use reading::ReadingBytes;
@@ -118,24 +118,25 @@ fn write_record(made: ChunkRecord) {
         .end();
 }
 
-// Writes so many records of a list.
-fn write_records(records: [ChunkRecord; lists::ROOM], count: usize) {
-    let mut i = 0;
-    while i < count {
-        if i < lists::ROOM {
-            write_record(records[i]);
-        }
-        i += 1;
+// Writes so many records from a place on.
+fn write_records(container: &[u8], plan: Plan) {
+    let reading = plan.reading;
+    let mut place = plan.start;
+    let mut left = plan.records;
+    while 0 < left {
+        let step = list::record_at(container, place, reading);
+        write_record(step.made);
+        place = step.next;
+        left -= 1;
     }
 }
 
-// Writes the answer on a listing.
+// Writes the answer on a listing: by all that `usm::usm_list` decides by, with room for every chunk.
 pub(crate) fn write_list(container: &[u8], reading: ReadingBytes) {
-    let filled = lists::list_of(container, reading);
-    let reply = filled.reply;
-    let records = filled.records;
+    let plan = list::list_plan(container, reading, container.len());
+    let reply = plan.reply;
     if reply.number == 0 {
-        write_records(records, reply.count);
+        write_records(container, plan);
         return;
     }
     write_refused(reply.number, reply.refused_at, reply.unknown_type);

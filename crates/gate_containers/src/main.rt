@@ -1,11 +1,10 @@
 // Replays recorded answers of the original Rust on whole containers: reads containers and questions from standard
-// input and writes what `extract::extract` and `usm::usm_list` answer. README.md beside this crate
-// has the format.
+// input and writes what `extract::extract` answers, and a listing by `list::list_plan` and `list::record_at`.
+// README.md beside this crate has the format.
 ghost use Prim.Native.Nat.{_≤_, _<_};
 ghost use lib.ListN.{length};
 
 mod answers;
-mod lists;
 mod questions;
 
 use gate_fields::Number;

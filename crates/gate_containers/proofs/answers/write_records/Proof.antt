@@ -1,29 +1,25 @@
--- `gate_containers::answers::write_records` is safe and ends: each turn goes one record on. Assumes nothing.
-use Prim.Native.Nat.{_-_}
+-- `gate_containers::answers::write_records` is safe and ends: each turn makes one record of those that are left. Assumes nothing.
 use borrow.Author.Needs.{needs}
 use Rattle.gate_containers.proofs.answers.write_records.Statement.{statement}
 use Rattle.gate_containers.proofs.answers.write_records.Tie as tie
 
 abbrev Inv-loop : tie.InvT-loop
-Inv-loop count records i₀ i = Unit {0}
+Inv-loop container reading place₀ left₀ place left = Unit {0}
 
 abbrev μ-loop : tie.MeasureT-loop
-μ-loop count records i₀ i = count - i
+μ-loop container reading place₀ left₀ place left = left
 
 loop-holds : tie.Need-loop-holds Inv-loop μ-loop
 loop-holds c = search needs
 
-mul-write-record : tie.Need-mul-write-record Inv-loop μ-loop
-mul-write-record c = search needs
-
-array-copy-out-write-record : tie.Need-array-copy-out-write-record Inv-loop μ-loop
-array-copy-out-write-record c = search needs
+record-at-requires : tie.Need-record-at-requires Inv-loop μ-loop
+record-at-requires c κs = search needs
 
 write-record-requires : tie.Need-write-record-requires Inv-loop μ-loop
 write-record-requires c κs = search needs
 
-add-i : tie.Need-add-i Inv-loop μ-loop
-add-i c = search needs
+sub-left : tie.Need-sub-left Inv-loop μ-loop
+sub-left c = search needs
 
 loop-less : tie.Need-loop-less Inv-loop μ-loop
 loop-less c = search needs
@@ -41,10 +37,9 @@ write-records-spec =
     Inv-loop
     μ-loop
     loop-holds
-    mul-write-record
-    array-copy-out-write-record
+    record-at-requires
     write-record-requires
-    add-i
+    sub-left
     loop-less
     loop-again
     returns)
