@@ -8,7 +8,7 @@ use Rattle.list.specs.declared.Listed.{Listed}
 use Rattle.list.specs.declared.Listed.the-variants.{Count, Refused}
 use Rattle.list.specs.Listing.{listReply}
 
-numbered : (why : Cause) → numberOf why ≡ 0 → ⊥
+pub numbered : (why : Cause) → numberOf why ≡ 0 → ⊥
 numbered cause.RanOut e = omega arith
 numbered cause.NoFilm e = omega arith
 numbered cause.NoTable e = omega arith

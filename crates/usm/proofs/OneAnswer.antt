@@ -33,7 +33,7 @@ usm-cell-once κs args r r′ exit exit′ = no-second-answer
 
 pub usm-extract-once : (κs : _) (args : _) (r r′ : _) (exit exit′ : _) → usm-extract.Learnt κs args r exit → usm-extract.Learnt κs args r′ exit′
     → (r ≡ r′) × (exit .1 .1 .1 .1 .0 .now ≡ exit′ .1 .1 .1 .1 .0 .now) × (exit .1 .1 .1 .1 .1 .0 .now ≡ exit′ .1 .1 .1 .1 .1 .0 .now)
-usm-extract-once κs args r r′ exit exit′ l l′ = (no-second-answer (l .0) (l′ .0), no-second-answer (l .1) (l′ .1), no-second-answer (l .2) (l′ .2))
+usm-extract-once κs args r r′ exit exit′ l l′ = (no-second-answer (l .0) (l′ .0), no-second-answer (l .1 .1) (l′ .1 .1), no-second-answer (l .1 .2) (l′ .1 .2))
 
 pub usm-write-once : (κs : _) (args : _) (r r′ : _) (exit exit′ : _) → usm-write.Learnt κs args r exit → usm-write.Learnt κs args r′ exit′
     → (r ≡ r′) × (exit .1 .1 .1 .1 .0 .now ≡ exit′ .1 .1 .1 .1 .0 .now)

@@ -22,4 +22,4 @@ pub RefusalsLeaveBothOutputs : promised.RefusalsLeaveBothOutputs
 RefusalsLeaveBothOutputs container reading key fallback video audio r videoAfter audioAfter l h =
     let answer = extractedOf container reading video audio in
     let refused : filmReply (length fallback) answer .number ≡ 0 → ⊥ = rw (l .0) at h in
-    (l .1 ∙ left (length fallback) answer video _ refused, l .2 ∙ left (length fallback) answer audio _ refused)
+    (l .1 .1 ∙ left (length fallback) answer video _ refused, l .1 .2 ∙ left (length fallback) answer audio _ refused)

@@ -1,5 +1,5 @@
 -- `usm::usm_extract` meets its contract, by those of the extraction and of its reply. Assumes nothing.
-use mathlib.Core.Path.{_≡_, ap, _∙_}
+use mathlib.Core.Path.{_≡_, ap, _∙_, subst}
 use mathlib.Core.List.{List}
 use Prim.Native.Nat.{ℕ}
 use lib.ListN.{length}
@@ -7,9 +7,8 @@ use Rattle.reading.specs.declared.Reading.{Reading}
 use Rattle.reading.specs.Choices.{readingBy}
 use Rattle.unmasking.specs.declared.Key.{Key}
 use Rattle.unmasking.specs.Unmasking.{keyBy}
-use Rattle.film.specs.Films.{filmOf}
 use Rattle.extract.specs.declared.Extracted.{Extracted}
-use Rattle.extract.specs.Extraction.{leftBy, videoOf, audioOf, Extraction}
+use Rattle.extract.specs.Extraction.{Extraction}
 use Rattle.replies.specs.declared.FilmReply.{FilmReply}
 use Rattle.replies.specs.FilmReplies.{filmReply}
 use Rattle.usm.specs.Exports.{FilmReplied}
@@ -20,11 +19,8 @@ use Rattle.usm.proofs.usm_extract.Tie as tie
 -- an extraction's answer, replied
 replied : (container : List ℕ) (reading : Reading) (key : Key) (fallback video audio video′ audio′ : List ℕ) (answer : Extracted) (r : FilmReply)
     → Extraction container reading key video audio answer video′ audio′ → r ≡ filmReply (length fallback) answer → FilmReplied container reading key fallback video audio r video′ audio′
-replied container reading key fallback video audio video′ audio′ answer r e q = (
-  q ∙ ap (filmReply (length fallback)) (e .0),
-  e .1 ∙ ap (λ (a : Extracted). leftBy a video (videoOf container key (filmOf container reading))) (e .0),
-  e .2 ∙ ap (λ (a : Extracted). leftBy a audio (audioOf container key (filmOf container reading))) (e .0),
-)
+replied container reading key fallback video audio video′ audio′ answer r e q =
+    (q ∙ ap (filmReply (length fallback)) (e .0), subst (λ (a : Extracted). Extraction container reading key video audio a video′ audio′) (e .0) e)
 
 reading-by-requires : tie.Need-reading-by-requires
 reading-by-requires c κs = search needs
