@@ -21,6 +21,7 @@ use Rattle.usm.proofs.salvaging.usm_salvage.Reads as usm-salvage
 use Rattle.usm.proofs.tables.usm_csv.Reads as usm-csv
 use Rattle.usm.proofs.stating.usm_statement.Reads as usm-statement
 use Rattle.usm.proofs.keys.usm_key_bits.Reads as usm-key-bits
+use Rattle.usm.proofs.keys.usm_payload_bits.Reads as usm-payload-bits
 use Rattle.usm.proofs.stepping.usm_open.Reads as usm-open
 use Rattle.usm.proofs.stepping.usm_step.Reads as usm-step
 use Rattle.usm.proofs.stepping.usm_clear.Reads as usm-clear
@@ -94,3 +95,6 @@ usm-step-once κs args r r′ exit exit′ = no-second-answer
 
 pub usm-clear-once : (κs : _) (args : _) (r r′ : _) (exit exit′ : _) → usm-clear.Learnt κs args r exit → usm-clear.Learnt κs args r′ exit′ → exit .1 .1 .0 .now ≡ exit′ .1 .1 .0 .now
 usm-clear-once κs args r r′ exit exit′ = no-second-answer
+
+pub usm-payload-bits-once : (κs : _) (args : _) (r r′ : _) (exit exit′ : _) → usm-payload-bits.Learnt κs args r exit → usm-payload-bits.Learnt κs args r′ exit′ → r ≡ r′
+usm-payload-bits-once κs args r r′ exit exit′ = no-second-answer

@@ -1,0 +1,3 @@
+pub mod BitLaws
+pub mod OneAnswer
+pub mod Promises

@@ -1,0 +1,2 @@
+pub mod PayloadBits
+pub mod Promises
