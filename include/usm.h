@@ -634,10 +634,10 @@ struct usm_index_entry {
 /*
  * Fills the first entries of `index`, which has `room` of them, with those of the film's video payloads
  * in their order, empty ones too; entries past them are unchanged. The reply is that of a listing, with
- * the count of the entries. The film is read in the Rust's modes, without audio: what is refused there
- * is refused here, and then USM_SHORT_LIST, with the count; the index is unchanged then. Lend it with
- * length 0 to learn the count (a film without a video payload is accepted then). An index that is built
- * again is identical (proved).
+ * the count of the entries. Tables and payloads are read as the original reads them, without audio: what is
+ * refused there is refused here, and then USM_SHORT_LIST, with the count; the index is unchanged then. Lend
+ * it with length 0 to learn the count (a film without a video payload is accepted then). An index that is
+ * built again is identical (proved).
  */
 struct usm_list_reply usm_index(const uint8_t *container, size_t len, struct usm_index_entry *index,
                                 size_t room);
@@ -659,8 +659,9 @@ struct usm_seek_reply {
 struct usm_seek_reply usm_seek(const struct usm_index_entry *index, size_t count, uint64_t byte);
 
 /*
- * The delivery profile: whether a film is plain. The film is read in the Rust's modes, with audio taken;
- * what is refused there is refused here, before any rule is tried. The rules, in their order:
+ * The delivery profile: whether a film is plain. Tables and payloads are read as the original reads them,
+ * with audio taken; what is refused there is refused here, before any rule is tried. The rules, in their
+ * order:
  *
  *     1   a chunk's header size is 0x18
  *     2   a chunk's block size plus 8 is a multiple of 0x20
@@ -685,7 +686,7 @@ struct usm_profile_reply {
 struct usm_profile_reply usm_profile(const uint8_t *container, size_t len);
 
 /*
- * A statement: which tenants have one copy of a film, and what each bears of it. Request 13.
+ * A statement: which tenants have one copy of a film, and what each bears of it.
  *
  * Two tenants are in one group exactly when both streams, with all audio taken, are the same byte for byte under
  * their keys. That is decided from the keys, the audio codec, the data types and the payloads' lengths: no stream is

@@ -22,7 +22,7 @@ pub record Step : Type 0 where
 abbrev step : Role → Stand → Step
 step role stand = record { role = role; stand = stand }
 
--- outside quotes, y being the byte after x: "record = field *(COMMA field)"; "file = record *(CRLF record) [CRLF]"; "non-escaped = *TEXTDATA"
+-- outside quotes, y being the byte after x: "record = field *(COMMA field)"; a file is records, each ended by CRLF, the last perhaps not; "non-escaped = *TEXTDATA". The RFC tells a header apart, which is a record here, and gives the empty file one record of one empty field, which has none here
 abbrev outside : ℕ → ℕ → Step
 outside x y = cond (eqb x comma) (step endsField atField) (cond (eqb x cr && eqb y lf) (step sign beforeLf) (step text inField))
 

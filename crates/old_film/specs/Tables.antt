@@ -1,4 +1,4 @@
--- Rule O3: what the blocks of the builder's header hold. Its tables' offsets count from byte 8 of the table.
+-- Rule O3: what the blocks of the builder's header hold. The offsets are the builder's own numbers: in none of the three tables do rows, strings or data stand there.
 use Prim.Native.Nat.{ℕ, _+_, _/_}
 use mathlib.Core.List.{List, [], _∷_, _++_}
 use lib.ListN.{length}
@@ -41,6 +41,6 @@ audioStrings =
     0x41 ∷ 0x55 ∷ 0x44 ∷ 0x49 ∷ 0x4F ∷ 0x5F ∷ 0x48 ∷ 0x44 ∷ 0x52 ∷ 0x49 ∷ 0x4E ∷ 0x46 ∷ 0x4F ∷ 0
     ∷ 0x73 ∷ 0x74 ∷ 0x72 ∷ 0x65 ∷ 0x61 ∷ 0x6D ∷ 0x5F ∷ 0x69 ∷ 0x64 ∷ 0 ∷ []
 
--- which audio it is, from 0 on. Rows, strings and data do not stand where this table says: it counts 9 bytes too few
+-- which audio it is, from 0 on
 unfoldable pub oldAudio : ℕ → List ℕ
 oldAudio audio = oldTable 57 16 20 48 1 4 ++ (0x54 ∷ bytes32 14) ++ bytes32 audio ++ audioStrings

@@ -1,4 +1,4 @@
--- Rules R: the number of each cause, and what is "also returned". 15, 16 and 23 are request 1's, 18 is request 5's.
+-- Rules R: the number of each cause, and what is "also returned". 15 to 23 are those of the requests that came after the base; 14 is struck.
 use Prim.Native.Nat.{ℕ}
 use Rattle.refusal.specs.declared.Beside.{Beside}
 use Rattle.refusal.specs.declared.Cause.{Cause}

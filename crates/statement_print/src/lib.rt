@@ -84,12 +84,10 @@ fn print_why(why: Why) {
     match why {
         Why::Alone => print(b"one copy: no other tenant has it\n"),
         Why::KeysAgree => print(b"one copy: the keys agree where it counts\n"),
-        Why::NothingShown => {
-            print(b"one copy: no payload of this film is long enough to show a key\n")
-        }
+        Why::NothingShown => { print(b"one copy: nothing in this film depends on a key\n") }
         Why::NotShown => {
             print(
-                b"one copy: no payload of this film is long enough to show where the keys differ\n",
+                b"one copy: nothing in this film depends on the digits in which the keys differ\n",
             )
         }
     }

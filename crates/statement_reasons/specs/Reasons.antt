@@ -7,8 +7,8 @@ use Rattle.tenants.specs.Tenants.{sharing, sharingOtherwise, counted}
 use Rattle.statement_reasons.specs.declared.Why.{Why}
 use Rattle.statement_reasons.specs.declared.Why.the-variants.{Alone, KeysAgree, NothingShown, NotShown}
 
--- those who have one copy with a key: no second one; none whose key does not agree with it where it counts; no payload long enough to show a key; or none
--- that shows where the keys differ
+-- those who have one copy with a key: no second one; none whose key does not agree with it where it counts; no payload that depends on a key, masked and long
+-- enough; or none that shows where the keys differ
 abbrev pub whyOf : ℕ → List (List ℕ) → ℕ → Why
 whyOf bytes tenants key =
     cond (ltb (counted (sharing bytes key) tenants) 2) Alone

@@ -22,7 +22,7 @@ pub enum Why {
     Alone,
     // Their keys agree where it counts.
     KeysAgree,
-    // No payload of the film is long enough to show a key.
+    // Nothing in the film depends on a key: no payload is masked, or those that are masked are too short.
     NothingShown,
     // The film shows some of a key, and nothing of where these differ.
     NotShown,

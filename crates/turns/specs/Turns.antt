@@ -26,7 +26,7 @@ turnsOf form (suc n) from video audio =
 abbrev pub chunksOf : Form → List ℕ → List ℕ → List ℕ
 chunksOf form video audio = turnsOf form (length video + length audio) 0 video audio
 
--- the size of the chunks of a stream of n bytes: whole payloads need no padding in either container
+-- the size of the chunks of a stream of n bytes: a chunk with a whole payload has 0x10020 bytes in either container
 unfoldable pub streamSize : Form → ℕ → ℕ
 streamSize form n = n / 0x10000 * 0x10020 + chunkSize form (n % 0x10000)
 
