@@ -32,7 +32,7 @@ use Rattle.index.specs.Entries.{entriesOf}
 use Rattle.index.specs.Indexing.{silent, indexOf}
 use Rattle.index.proofs.IndexLaws.{replied}
 use Rattle.promises_seek.specs.Promises as promised
-use Rattle.promises_seek.specs.Promises.{HoldsAt, LeadsTo}
+use Rattle.promises_seek.specs.Promises.{HoldsAt, LeadsTo, Holds}
 use Rattle.promises_seek.proofs.ChainLaws.{answers, past}
 use Rattle.promises_seek.proofs.EntryLaws.{Comes, chained, comes}
 
@@ -72,6 +72,30 @@ module _ (container : List ℕ) (video audio videoAfter audioAfter : List ℕ) (
         let led = leads (c .before) (c .after) (c .chunk) (f ∙ ap (film header applied) (c .split)) (c .video) offset (omega (arith, long, h)) in
         rw start (rw byte at led)
 
+    held-by : (n i : ℕ) → Comes 0 chunks (getD index i []) → placeAt index i ≤ n → n - placeAt index i < lengthAt index i
+        → Holds chunks n (At (getD (getD index i []) 1 0) (n - placeAt index i))
+    held-by n i c b h =
+        let place : placeAt index i ≡ videoSize (c .before) = ap (λ (entry : List ℕ). getD entry 0 0) (c .holds) ∙ zero-add (videoSize (c .before)) in
+        let start : getD (getD index i []) 1 0 ≡ c .chunk .start = ap (λ (entry : List ℕ). getD entry 1 0) (c .holds) in
+        let long : lengthAt index i ≡ c .chunk .len = ap (λ (entry : List ℕ). getD entry 2 0) (c .holds) in
+        record {
+          before = c .before;
+          chunk = c .chunk;
+          after = c .after;
+          offset = n - placeAt index i;
+          split = c .split;
+          video = c .video;
+          there = omega (arith, place, b);
+          within = omega (arith, long, h);
+          answers = ap (λ (s : ℕ). At s (n - placeAt index i)) start;
+        }
+
+    named : (n : ℕ) → n < contents .«video_size» → Holds chunks n (soughtIn index n)
+    named n l =
+        let a = answers index (0 + videoSize chunks) n (chained 0 chunks) (omega (arith, its-size chunks f)) in
+        let last = begunBy index n - 1 in
+        rw (a .3) (held-by n last (comes 0 chunks last (a .0)) (a .1) (a .2))
+
     sought : (n : ℕ) → n < contents .«video_size» → LeadsTo container applied (soughtIn index n) (at videoAfter n)
     sought n l =
         let a = answers index (0 + videoSize chunks) n (chained 0 chunks) (omega (arith, its-size chunks f)) in
@@ -85,6 +109,11 @@ pub JumpsAgreeWithTheStream : promised.JumpsAgreeWithTheStream
 JumpsAgreeWithTheStream container list index r video audio videoAfter audioAfter contents header applied chunks n i z e f l =
     let built : take (r .count) index ≡ entriesOf chunks = replied container list index r i z .1 ∙ ap indexOf f in
     rw built (sought container video audio videoAfter audioAfter contents header applied e chunks f n l)
+
+pub JumpsNameTheChunk : promised.JumpsNameTheChunk
+JumpsNameTheChunk container list index r video audio videoAfter audioAfter contents header applied chunks n i z e f l =
+    let built : take (r .count) index ≡ entriesOf chunks = replied container list index r i z .1 ∙ ap indexOf f in
+    rw built (named container video audio videoAfter audioAfter contents header applied e chunks f n l)
 
 pub PastTheSizeIsPastTheEnd : promised.PastTheSizeIsPastTheEnd
 PastTheSizeIsPastTheEnd container list index r video audio videoAfter audioAfter contents n i z e l = by-film (filmOf container silent) refl

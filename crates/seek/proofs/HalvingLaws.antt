@@ -83,6 +83,18 @@ module _ (index : List (List ℕ)) (n : ℕ) where
   pub halving-over : (span : Span) → Halving span → span .count ≡ 0 → span .low ≡ begunBy index n
   halving-over span w e = sym (none-left (w .steps) span e) ∙ w .whole
 
+  -- the last entry that is found begins at or before byte n, in any list
+  last-found : (steps : ℕ) (span : Span) → Halving span → span .count ≤ steps → 0 < halved index n steps span → placeAt index (halved index n steps span - 1) ≤ n
+  last-found zero span w h = let e : span .count ≡ 0 = omega arith in rw (none-left 0 span e) (w .last)
+  last-found (suc steps) span w h =
+      ⊎-elim (λ (l : span .count < 1). let e : span .count ≡ 0 = omega arith in rw (none-left (suc steps) span e) (w .last))
+      (λ (l : 1 ≤ span .count). rw (one-halved steps span l) (last-found steps (halfOf index n span) (halving-goes-on span w l) (omega (arith, half-falls span l .1))))
+      (side (span .count) 1)
+
+  pub last-begun : 0 < begunBy index n → placeAt index (begunBy index n - 1) ≤ n
+  unfolding begunBy
+  last-begun = last-found (length index) (record { low = 0; count = length index }) halving-starts (omega arith)
+
   -- ---- what is found where the places never fall
 
   -- the entries before k begin at or before byte n, and those from k on after it

@@ -4,7 +4,7 @@ use mathlib.Core.Path.{_≡_}
 use mathlib.Core.List.{List}
 use lib.ListN.{length}
 use Rattle.seek.specs.declared.Sought.the-variants.{At}
-use Rattle.seek.specs.Entries.{placeAt, lengthAt}
+use Rattle.seek.specs.Entries.{placeAt, chunkIn, lengthAt}
 use Rattle.seek.specs.Seeking.{halved, begunBy, soughtIn}
 
 -- the places never fall
@@ -22,7 +22,15 @@ abbrev pub FewHalvingsSuffice : Type 0
 FewHalvingsSuffice =
     (index : List (List ℕ)) (n k : ℕ) → length index < 2 ^ k → halved index n k (record { low = 0; count = length index }) ≡ begunBy index n
 
--- "Empty payloads never answer", in an index that nobody built too: what answers is an entry that begins at or before the byte, and its payload is longer than the offset.
+-- an entry answers for byte n: its chunk, and the byte's offset, which is less than its length
+pub record Answers (index : List (List ℕ)) (n chunk offset i : ℕ) : Type 0 where
+  pub begins : placeAt index i ≤ n
+  pub starts : chunk ≡ chunkIn index i
+  pub counted : offset ≡ n - placeAt index i
+  pub within : offset < lengthAt index i
+
+-- "Empty payloads never answer", in an index that nobody built too: what answers is the last entry that is found to begin at or before the byte, by its own chunk, and its payload is longer
+-- than the offset.
 abbrev pub EmptyPayloadsNeverAnswer : Type 0
 EmptyPayloadsNeverAnswer =
-    (index : List (List ℕ)) (n chunk offset : ℕ) → soughtIn index n ≡ At chunk offset → (0 < begunBy index n) × (offset < lengthAt index (begunBy index n - 1))
+    (index : List (List ℕ)) (n chunk offset : ℕ) → soughtIn index n ≡ At chunk offset → (0 < begunBy index n) × Answers index n chunk offset (begunBy index n - 1)
