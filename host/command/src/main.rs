@@ -1,41 +1,22 @@
 //! The command `usm`: what is in USM films, their streams as files, and films made of streams.
 //!
-//! Each subcommand is a file of its own. What they share: which films (`films`), several at once and each told in its
-//! turn (`crew`), and what is written where (`output`, `names`, `pair`, `placing`).
+//! Each subcommand is a file of `commands`. They share their options (`options`), the work on many films (`run`), the
+//! files that are made (`files`), and what is printed (`output`).
 #![forbid(unsafe_code)]
 
-mod choice;
-mod codecs;
-mod completions;
-mod crew;
-mod csv_files;
-mod extract;
-mod films;
-mod from_old;
-mod info;
-mod key;
-mod keys;
-mod list;
-mod made;
-mod names;
+mod commands;
+mod files;
+mod options;
 mod output;
-mod pack;
-mod pair;
-mod placing;
-mod profile;
-mod progress;
-mod salvage;
-mod statement;
-mod table;
-mod to_old;
-mod trouble;
+mod run;
 
 use std::io::Write;
 use std::process::ExitCode;
 
 use clap::{Parser, Subcommand};
 
-use trouble::Status;
+use commands::*;
+use output::Status;
 
 /// Looks into USM films, extracts them and packs them
 ///
@@ -59,7 +40,7 @@ enum Command {
     Table(table::Table),
     Extract(extract::Extract),
     Pack(pack::Pack),
-    Csv(csv_files::Csv),
+    Csv(csv::Csv),
     FromOld(from_old::FromOld),
     ToOld(to_old::ToOld),
     Salvage(salvage::Salvage),
@@ -72,7 +53,7 @@ enum Command {
 fn main() -> ExitCode {
     let status = match Arguments::try_parse() {
         Ok(arguments) => run(arguments.command),
-        Err(told) => tell(told),
+        Err(error) => print_usage(error),
     };
     ExitCode::from(status as u8)
 }
@@ -96,11 +77,11 @@ fn run(command: Command) -> Status {
 }
 
 /// Help and version, which are no errors, or what is wrong with the arguments.
-fn tell(told: clap::Error) -> Status {
-    let is_error = told.use_stderr();
-    match told.print().and_then(|()| std::io::stdout().flush()) {
-        Ok(()) if !is_error => Status::Well,
-        Ok(()) => Status::Trouble,
+fn print_usage(error: clap::Error) -> Status {
+    let is_error = error.use_stderr();
+    match error.print().and_then(|()| std::io::stdout().flush()) {
+        Ok(()) if !is_error => Status::Success,
+        Ok(()) => Status::Failed,
         Err(error) => output::failed(error),
     }
 }

@@ -5,53 +5,53 @@ use std::path::Path;
 
 use usm::Refusal;
 
-use crate::names::Shown;
+use crate::output::text::Shown;
 
 /// The status of a run; the worst one counts.
 #[derive(Clone, Copy, PartialEq, Eq, PartialOrd, Ord)]
 pub enum Status {
     /// All is well.
-    Well = 0,
+    Success = 0,
     /// Some film is refused.
     Refused = 1,
     /// The arguments, a file or the system.
-    Trouble = 2,
+    Failed = 2,
 }
 
 /// Why a film is not done.
-pub enum Trouble {
+pub enum Error {
     /// By the rules.
     Refused(Refusal),
     /// By a file or the system, in words.
     System(String),
-    /// Standard output can't be written, so that nothing more can be told.
+    /// Standard output can't be written, so that the run ends.
     Output(io::Error),
 }
 
-impl Trouble {
+impl Error {
     /// What happened to a file.
-    pub fn with(path: &Path, error: impl std::fmt::Display) -> Trouble {
-        Trouble::System(format!("{}: {error}", Shown::path(path)))
+    pub fn with(path: &Path, error: impl std::fmt::Display) -> Error {
+        Error::System(format!("{}: {error}", Shown::path(path)))
     }
 
     /// The same, of a file that is not named yet.
-    pub fn of(self, path: &Path) -> Trouble {
+    pub fn of(self, path: &Path) -> Error {
         match self {
-            Trouble::System(what) => Trouble::with(path, what),
-            trouble => trouble,
+            Error::System(what) => Error::with(path, what),
+            error => error,
         }
     }
 
     pub fn status(&self) -> Status {
         match self {
-            Trouble::Refused(_) => Status::Refused,
-            Trouble::System(_) | Trouble::Output(_) => Status::Trouble,
+            Error::Refused(_) => Status::Refused,
+            Error::System(_) | Error::Output(_) => Status::Failed,
         }
     }
 }
 
-impl From<Refusal> for Trouble {
-    fn from(refusal: Refusal) -> Trouble {
-        Trouble::Refused(refusal)
+impl From<Refusal> for Error {
+    fn from(refusal: Refusal) -> Error {
+        Error::Refused(refusal)
     }
 }

@@ -2,10 +2,10 @@
 
 use clap::Args;
 
-use crate::films::{Films, make_room};
-use crate::made::{self, Made, Making};
-use crate::placing::Placing;
-use crate::trouble::{Status, Trouble};
+use crate::files::targets::OutputOptions;
+use crate::output::{Error, Status};
+use crate::run::rewrite::{self, Rewrite, Rewritten};
+use crate::run::sources::{Films, make_room};
 
 /// Move films back to those of the old builder
 ///
@@ -18,24 +18,24 @@ pub struct ToOld {
     #[command(flatten)]
     films: Films,
     #[command(flatten)]
-    placing: Placing,
+    placing: OutputOptions,
 }
 
 impl ToOld {
     pub fn run(self) -> Status {
-        made::run(MovingBack, &self.films, &self.placing)
+        rewrite::run(MovingBack, &self.films, &self.placing)
     }
 }
 
 struct MovingBack;
 
-impl Making for MovingBack {
-    const WORD: &'static str = "old";
+impl Rewrite for MovingBack {
+    const SUFFIX: &'static str = "old";
 
-    fn make<'b>(&self, film: &'b [u8], room: &'b mut Vec<u8>) -> Result<Made<'b>, Trouble> {
+    fn make<'b>(&self, film: &'b [u8], room: &'b mut Vec<u8>) -> Result<Rewritten<'b>, Error> {
         // The old film is shorter.
         make_room(room, film.len())?;
         usm::to_old_into(film, room)?;
-        Ok(Made { film: room, dropped: None })
+        Ok(Rewritten { film: room, dropped: None })
     }
 }

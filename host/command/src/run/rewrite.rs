@@ -5,25 +5,27 @@ use std::path::Path;
 use serde::Serialize;
 use usm::Reason;
 
-use crate::crew::{self, Film, Task, Turn};
-use crate::films::Films;
-use crate::names::Shown;
-use crate::output::{About, AsHex, AsText, Output, as_string, not_begun, tell};
-use crate::pair::Pair;
-use crate::placing::{Files, Placing, stem};
-use crate::trouble::{Status, Trouble};
+use crate::files::names::stem;
+use crate::files::staged::StagedFiles;
+use crate::files::targets::{OutputOptions, Targets};
+use crate::output::json::{About, AsHex, AsText, as_string};
+use crate::output::text::Shown;
+use crate::output::{Error, Status};
+use crate::output::{Output, print_to, report_error};
+use crate::run::sources::Films;
+use crate::run::workers::{self, Film, Task, Turn};
 
 /// A way to make a film of a film.
-pub trait Making: Sync {
+pub trait Rewrite: Sync {
     /// What stands in front of the ending where the new film lies beside the other.
-    const WORD: &'static str;
+    const SUFFIX: &'static str;
 
     /// The new film, which may lie in the room that is lent.
-    fn make<'b>(&self, film: &'b [u8], room: &'b mut Vec<u8>) -> Result<Made<'b>, Trouble>;
+    fn make<'b>(&self, film: &'b [u8], room: &'b mut Vec<u8>) -> Result<Rewritten<'b>, Error>;
 }
 
 /// A film that is made.
-pub struct Made<'b> {
+pub struct Rewritten<'b> {
     pub film: &'b [u8],
     /// What was dropped of the other, where something can be.
     pub dropped: Option<Dropped>,
@@ -36,49 +38,49 @@ pub struct Dropped {
 }
 
 /// Makes a film of each.
-pub fn run(making: impl Making, films: &Films, placing: &Placing) -> Status {
-    match Files::new(placing, films) {
-        Ok(files) => crew::run(&Run { making, files, json: films.json, quiet: placing.quiet }, films),
-        Err(trouble) => not_begun(trouble),
+pub fn run(rewrite: impl Rewrite, films: &Films, placing: &OutputOptions) -> Status {
+    match Targets::new(placing, films) {
+        Ok(files) => workers::run(&Run { rewrite, files, json: films.json, quiet: placing.quiet }, films),
+        Err(error) => report_error(error),
     }
 }
 
 struct Run<M> {
-    making: M,
-    files: Files,
+    rewrite: M,
+    files: Targets,
     json: bool,
     quiet: bool,
 }
 
-impl<M: Making> Task for Run<M> {
+impl<M: Rewrite> Task for Run<M> {
     const STEPS: u64 = 2;
 
-    fn film<'a>(&'a self, film: Film<'a, '_>, turn: &Turn<'a, '_>) -> Result<(), Trouble> {
+    fn film<'a>(&'a self, film: Film<'a, '_>, turn: &Turn<'a, '_>) -> Result<(), Error> {
         let Film { label, bytes, video: room, meter, .. } = film;
-        let made = self.making.make(bytes, room)?;
-        let name = if self.files.have_folder() { stem(label) } else { format!("{}.{}", stem(label), M::WORD) };
+        let made = self.rewrite.make(bytes, room)?;
+        let name = if self.files.have_folder() { stem(label) } else { format!("{}.{}", stem(label), M::SUFFIX) };
         let targets = [self.files.target(label, &format!("{name}.usm"))];
         self.files.check(&targets)?;
-        let mut pair = Pair::default();
+        let mut pair = StagedFiles::default();
         pair.write(targets[0].clone(), made.film, meter)?;
         let (size, dropped) = (made.film.len(), made.dropped);
-        turn.hand_over(move |output| {
+        turn.finish_in_turn(move |output| {
             self.files.place(label, &pair, &targets)?;
-            self.tell(label, &targets[0], size, dropped, output)
+            self.print(label, &targets[0], size, dropped, output)
         });
         Ok(())
     }
 }
 
 impl<M> Run<M> {
-    fn tell(
+    fn print(
         &self,
         label: &Path,
         target: &Path,
         size: usize,
         dropped: Option<Dropped>,
         output: &mut Output,
-    ) -> Result<(), Trouble> {
+    ) -> Result<(), Error> {
         if self.json {
             return output.object(&Object::of(label, target, size, dropped));
         }
@@ -86,11 +88,11 @@ impl<M> Run<M> {
             return Ok(());
         }
         output.gap()?;
-        tell!(output, "{}\n", Shown::path(label));
-        tell!(output, "written  {size} bytes: {}\n", Shown::path(target));
+        print_to!(output, "{}\n", Shown::path(label));
+        print_to!(output, "written  {size} bytes: {}\n", Shown::path(target));
         match dropped {
-            Some(Dropped { bytes, cause: Some(cause) }) => tell!(output, "dropped  {bytes} bytes: {cause}\n"),
-            Some(Dropped { cause: None, .. }) => tell!(output, "dropped  none: the film is accepted\n"),
+            Some(Dropped { bytes, cause: Some(cause) }) => print_to!(output, "dropped  {bytes} bytes: {cause}\n"),
+            Some(Dropped { cause: None, .. }) => print_to!(output, "dropped  none: the film is accepted\n"),
             None => {}
         }
         Ok(())

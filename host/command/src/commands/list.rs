@@ -7,12 +7,13 @@ use serde::ser::SerializeSeq;
 use serde::{Serialize, Serializer};
 use usm::{Chunk, Chunks, Reading};
 
-use crate::choice::Choice;
-use crate::crew::{self, Film, Task, Turn};
-use crate::films::Films;
-use crate::names::Shown;
-use crate::output::{About, Output, as_string, tell};
-use crate::trouble::{Status, Trouble};
+use crate::options::reading::ReadingOptions;
+use crate::output::json::{About, as_string};
+use crate::output::text::Shown;
+use crate::output::{Error, Status};
+use crate::output::{Output, print_to};
+use crate::run::sources::Films;
+use crate::run::workers::{self, Film, Task, Turn};
 
 /// List the chunks of films
 ///
@@ -26,51 +27,51 @@ pub struct List {
     #[arg(long, conflicts_with = "json")]
     csv: bool,
     #[command(flatten)]
-    choice: Choice,
+    choice: ReadingOptions,
 }
 
 impl List {
     pub fn run(self) -> Status {
-        crew::run(&self, &self.films)
+        workers::run(&self, &self.films)
     }
 }
 
 impl Task for List {
-    fn film<'a>(&'a self, film: Film<'a, '_>, turn: &Turn<'a, '_>) -> Result<(), Trouble> {
+    fn film<'a>(&'a self, film: Film<'a, '_>, turn: &Turn<'a, '_>) -> Result<(), Error> {
         let chunks = listed(film.bytes, self.choice.reading())?;
-        let mut told = turn.take();
+        let mut printer = turn.take();
         if self.films.json {
-            told.object(&Object { about: About::new(film.label), chunks: InOrder(&chunks) })
+            printer.object(&Object { about: About::new(film.label), chunks: InOrder(&chunks) })
         } else if self.csv {
-            write_csv(film.label, &chunks, &mut told)
+            write_csv(film.label, &chunks, &mut printer)
         } else {
-            tell_chunks(&film, &chunks, &mut told)
+            print_chunks(&film, &chunks, &mut printer)
         }
     }
 }
 
 /// The chunks of a film, if there is memory for their records.
-pub fn listed(film: &[u8], reading: Reading) -> Result<Chunks<'_>, Trouble> {
+pub fn listed(film: &[u8], reading: Reading) -> Result<Chunks<'_>, Error> {
     let count = usm::count(film, reading)?;
     let tried = Vec::<[u64; 3]>::new().try_reserve_exact(count);
-    tried.map_err(|_| Trouble::System(format!("no memory for a list of {count} chunks")))?;
+    tried.map_err(|_| Error::System(format!("no memory for a list of {count} chunks")))?;
     Ok(usm::list(film, reading)?)
 }
 
-fn tell_chunks(film: &Film, chunks: &Chunks, output: &mut Output) -> Result<(), Trouble> {
+fn print_chunks(film: &Film, chunks: &Chunks, output: &mut Output) -> Result<(), Error> {
     output.gap()?;
     let wide = film.bytes.len().to_string().len().max("length".len());
-    tell!(output, "{}: {} chunks\n", Shown::path(film.label), chunks.len());
+    print_to!(output, "{}: {} chunks\n", Shown::path(film.label), chunks.len());
     if !chunks.is_empty() {
-        tell!(output, "{:>wide$}  kind   type  channel  {:>wide$}\n", "start", "length");
+        print_to!(output, "{:>wide$}  kind   type  channel  {:>wide$}\n", "start", "length");
     }
     for Chunk { start, kind, data_type, channel, payload, .. } in chunks {
-        tell!(output, "{start:>wide$}  {kind:<5}  {data_type:>4}  {channel:>7}  {:>wide$}\n", payload.len());
+        print_to!(output, "{start:>wide$}  {kind:<5}  {data_type:>4}  {channel:>7}  {:>wide$}\n", payload.len());
     }
     Ok(())
 }
 
-fn write_csv(label: &Path, chunks: &Chunks, output: &mut Output) -> Result<(), Trouble> {
+fn write_csv(label: &Path, chunks: &Chunks, output: &mut Output) -> Result<(), Error> {
     let is_first = !output.is_begun();
     let mut csv = csv::WriterBuilder::new().terminator(csv::Terminator::CRLF).from_writer(output);
     let file = label.as_os_str().as_encoded_bytes();
@@ -90,7 +91,7 @@ fn write_csv(label: &Path, chunks: &Chunks, output: &mut Output) -> Result<(), T
         csv.flush()?;
         Ok(())
     };
-    write().map_err(|error: csv::Error| Trouble::Output(error.into()))
+    write().map_err(|error: csv::Error| Error::Output(error.into()))
 }
 
 #[derive(Serialize)]

@@ -8,12 +8,13 @@ use serde::ser::SerializeSeq;
 use serde::{Serialize, Serializer};
 use usm::{Cell, Column, Row};
 
-use crate::crew::{self, Film, Task, Turn};
-use crate::csv_files::text_of;
-use crate::films::Films;
-use crate::names::{Hex, Shown};
-use crate::output::{About, AsHex, AsText, Output, as_string, say, tell};
-use crate::trouble::{Status, Trouble};
+use crate::commands::csv::text_of;
+use crate::output::json::{About, AsHex, AsText, as_string};
+use crate::output::text::{Hex, Shown};
+use crate::output::{Error, Status};
+use crate::output::{Output, print_to, report};
+use crate::run::sources::Films;
+use crate::run::workers::{self, Film, Task, Turn};
 
 /// Show the tables of films' headers
 ///
@@ -33,9 +34,9 @@ pub struct Table {
 impl Table {
     pub fn run(self) -> Status {
         if self.csv && !matches!(&self.films.files[..], [file] if !file.is_dir()) {
-            return say(Status::Trouble, "--csv writes one table: name one file");
+            return report(Status::Failed, "--csv writes one table: name one file");
         }
-        crew::run(&self, &self.films)
+        workers::run(&self, &self.films)
     }
 }
 
@@ -48,11 +49,11 @@ pub fn place(word: &str) -> Result<usize, String> {
 }
 
 impl Task for Table {
-    fn film<'a>(&'a self, film: Film<'a, '_>, turn: &Turn<'a, '_>) -> Result<(), Trouble> {
+    fn film<'a>(&'a self, film: Film<'a, '_>, turn: &Turn<'a, '_>) -> Result<(), Error> {
         if let (true, Some(place)) = (self.csv, self.at) {
             let text = film.video;
             text_of(film.bytes, place, text)?;
-            return turn.take().write_all(text).map_err(Trouble::Output);
+            return turn.take().write_all(text).map_err(Error::Output);
         }
         let tables = match self.at {
             Some(place) => vec![Placed { letters: None, place, table: usm::table(film.bytes, place)? }],
@@ -62,13 +63,13 @@ impl Task for Table {
                     let table = usm::table(film.bytes, found.place)?;
                     Ok(Placed { letters: Some(found.letters), place: found.place, table })
                 })
-                .collect::<Result<_, Trouble>>()?,
+                .collect::<Result<_, Error>>()?,
         };
-        let mut told = turn.take();
+        let mut printer = turn.take();
         if self.films.json {
-            told.object(&Object { about: About::new(film.label), tables: &tables })
+            printer.object(&Object { about: About::new(film.label), tables: &tables })
         } else {
-            tables.iter().try_for_each(|placed| tell_table(&film, placed, &mut told))
+            tables.iter().try_for_each(|placed| print_table(&film, placed, &mut printer))
         }
     }
 }
@@ -83,23 +84,23 @@ struct Placed<'a> {
 /// So many bytes of data are shown to a person.
 const SHOWN: usize = 32;
 
-fn tell_table(film: &Film, placed: &Placed, output: &mut Output) -> Result<(), Trouble> {
+fn print_table(film: &Film, placed: &Placed, output: &mut Output) -> Result<(), Error> {
     let Placed { letters, place, table } = placed;
     output.gap()?;
     let block = letters.map_or(String::new(), |letters| format!("{} ", Shown::bytes(&letters)));
     let (columns, rows) = (table.columns().len(), table.row_count());
-    tell!(output, "{}: {block}table at {place}: columns {columns}, rows {rows}\n", Shown::path(film.label));
+    print_to!(output, "{}: {block}table at {place}: columns {columns}, rows {rows}\n", Shown::path(film.label));
     for (number, row) in table.rows().enumerate() {
         if rows > 1 {
-            tell!(output, "row {number}\n");
+            print_to!(output, "row {number}\n");
         }
         for (column, cell) in table.columns().iter().zip(row.cells()) {
-            tell!(output, "  {}  {}\n", Shown::bytes(column.name), ForPerson(cell));
+            print_to!(output, "  {}  {}\n", Shown::bytes(column.name), ForPerson(cell));
         }
     }
     if rows == 0 {
         for column in table.columns() {
-            tell!(output, "  {}\n", Shown::bytes(column.name));
+            print_to!(output, "  {}\n", Shown::bytes(column.name));
         }
     }
     Ok(())

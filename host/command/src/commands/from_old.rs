@@ -2,11 +2,11 @@
 
 use clap::Args;
 
-use crate::codecs::Codecs;
-use crate::films::{Films, make_room};
-use crate::made::{self, Made, Making};
-use crate::placing::Placing;
-use crate::trouble::{Status, Trouble};
+use crate::files::targets::OutputOptions;
+use crate::options::codecs::Codecs;
+use crate::output::{Error, Status};
+use crate::run::rewrite::{self, Rewrite, Rewritten};
+use crate::run::sources::{Films, make_room};
 
 /// Move films of the old builder to films that can be read
 ///
@@ -25,24 +25,24 @@ pub struct FromOld {
     #[command(flatten)]
     codecs: Codecs,
     #[command(flatten)]
-    placing: Placing,
+    placing: OutputOptions,
 }
 
 impl FromOld {
     pub fn run(self) -> Status {
         let codecs = usm::Codecs { video: self.codecs.video_codec, audio: self.codecs.audio_codec };
-        made::run(MovingFrom(codecs), &self.films, &self.placing)
+        rewrite::run(MovingFrom(codecs), &self.films, &self.placing)
     }
 }
 
 struct MovingFrom(usm::Codecs);
 
-impl Making for MovingFrom {
-    const WORD: &'static str = "moved";
+impl Rewrite for MovingFrom {
+    const SUFFIX: &'static str = "moved";
 
-    fn make<'b>(&self, film: &'b [u8], room: &'b mut Vec<u8>) -> Result<Made<'b>, Trouble> {
+    fn make<'b>(&self, film: &'b [u8], room: &'b mut Vec<u8>) -> Result<Rewritten<'b>, Error> {
         make_room(room, usm::from_old_size(film, self.0)?)?;
         usm::from_old_into(film, self.0, room)?;
-        Ok(Made { film: room, dropped: None })
+        Ok(Rewritten { film: room, dropped: None })
     }
 }

@@ -5,7 +5,7 @@ use usm::{Audio, Payloads, Reading};
 
 /// What commands that take payloads take.
 #[derive(Args)]
-pub struct Choice {
+pub struct ReadingOptions {
     /// Leave audio out: it is not even checked
     #[arg(long)]
     no_audio: bool,
@@ -23,7 +23,7 @@ enum Start {
     AfterHeader,
 }
 
-impl Choice {
+impl ReadingOptions {
     pub fn reading(&self) -> Reading {
         let audio = match self.channel {
             Some(channel) => Audio::Channel(channel),

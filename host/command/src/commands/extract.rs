@@ -6,15 +6,18 @@ use clap::Args;
 use serde::Serialize;
 use usm::{Audio, Outline, Reading};
 
-use crate::choice::Choice;
-use crate::crew::{self, Film, Task, Turn};
-use crate::films::{Films, make_room};
-use crate::key;
-use crate::names::{Shown, safe};
-use crate::output::{About, AsHex, AsText, Output, as_string, not_begun, tell};
-use crate::pair::Pair;
-use crate::placing::{Files, Placing, stem};
-use crate::trouble::{Status, Trouble};
+use crate::files::names::safe;
+use crate::files::names::stem;
+use crate::files::staged::StagedFiles;
+use crate::files::targets::{OutputOptions, Targets};
+use crate::options::key;
+use crate::options::reading::ReadingOptions;
+use crate::output::json::{About, AsHex, AsText, as_string};
+use crate::output::text::Shown;
+use crate::output::{Error, Status};
+use crate::output::{Output, print_to, report_error};
+use crate::run::sources::{Films, make_room};
+use crate::run::workers::{self, Film, Task, Turn};
 
 /// Extract the streams of films
 ///
@@ -33,9 +36,9 @@ pub struct Extract {
     #[arg(long, short, value_name = "KEY")]
     key: Option<String>,
     #[command(flatten)]
-    choice: Choice,
+    choice: ReadingOptions,
     #[command(flatten)]
-    placing: Placing,
+    placing: OutputOptions,
 }
 
 impl Extract {
@@ -44,46 +47,46 @@ impl Extract {
             Ok(key) => key,
             Err(status) => return status,
         };
-        let files = match Files::new(&self.placing, &self.films) {
+        let files = match Targets::new(&self.placing, &self.films) {
             Ok(files) => files,
-            Err(trouble) => return not_begun(trouble),
+            Err(error) => return report_error(error),
         };
-        let extraction = Extraction { key, reading: self.choice.reading(), files, told: self };
-        crew::run(&extraction, &extraction.told.films)
+        let extraction = Extraction { key, reading: self.choice.reading(), files, options: self };
+        workers::run(&extraction, &extraction.options.films)
     }
 }
 
 struct Extraction {
-    told: Extract,
+    options: Extract,
     key: Option<u64>,
     reading: Reading,
-    files: Files,
+    files: Targets,
 }
 
 impl Task for Extraction {
     const STEPS: u64 = 2;
 
-    fn film<'a>(&'a self, film: Film<'a, '_>, turn: &Turn<'a, '_>) -> Result<(), Trouble> {
+    fn film<'a>(&'a self, film: Film<'a, '_>, turn: &Turn<'a, '_>) -> Result<(), Error> {
         let Film { label, bytes, video, audio, meter } = film;
         let outline = usm::outline(bytes, self.reading)?;
         let targets = self.targets(label, &outline)?;
         make_room(video, outline.video.size)?;
         make_room(audio, outline.audio.map_or(0, |track| track.size))?;
         usm::extract_into(bytes, self.reading, self.key, video, audio)?;
-        let mut pair = Pair::default();
+        let mut pair = StagedFiles::default();
         for (target, stream) in targets.iter().zip([&*video, &*audio]) {
             pair.write(target.clone(), stream, meter)?;
         }
         let sizes = [video.len(), audio.len()];
-        if self.told.films.json {
+        if self.options.films.json {
             // The name, which may be as long as the film, stays where it is.
-            let mut told = turn.take();
+            let mut printer = turn.take();
             self.files.place(label, &pair, &targets)?;
-            return told.object(&Extracted::of(label, outline.name, &targets, sizes));
+            return printer.object(&Extracted::of(label, outline.name, &targets, sizes));
         }
-        turn.hand_over(move |output| {
+        turn.finish_in_turn(move |output| {
             self.files.place(label, &pair, &targets)?;
-            if self.told.placing.quiet { Ok(()) } else { tell_files(label, &targets, sizes, output) }
+            if self.options.placing.quiet { Ok(()) } else { print_files(label, &targets, sizes, output) }
         });
         Ok(())
     }
@@ -91,7 +94,7 @@ impl Task for Extraction {
 
 impl Extraction {
     /// The files of a film: that of the video, and that of audio which is taken. None may be there, unless by force.
-    fn targets(&self, label: &Path, outline: &Outline) -> Result<Vec<PathBuf>, Trouble> {
+    fn targets(&self, label: &Path, outline: &Outline) -> Result<Vec<PathBuf>, Error> {
         let name = outline.name.and_then(safe).unwrap_or_else(|| stem(label));
         let mut targets = vec![self.files.target(label, &format!("{name}.{}", outline.video.kind))];
         if let Some(track) = &outline.audio
@@ -104,11 +107,11 @@ impl Extraction {
     }
 }
 
-fn tell_files(label: &Path, targets: &[PathBuf], sizes: [usize; 2], output: &mut Output) -> Result<(), Trouble> {
+fn print_files(label: &Path, targets: &[PathBuf], sizes: [usize; 2], output: &mut Output) -> Result<(), Error> {
     output.gap()?;
-    tell!(output, "{}\n", Shown::path(label));
+    print_to!(output, "{}\n", Shown::path(label));
     for (kind, (target, size)) in ["video", "audio"].iter().zip(targets.iter().zip(sizes)) {
-        tell!(output, "{kind}  {size} bytes: {}\n", Shown::path(target));
+        print_to!(output, "{kind}  {size} bytes: {}\n", Shown::path(target));
     }
     Ok(())
 }

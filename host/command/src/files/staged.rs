@@ -6,16 +6,16 @@ use std::path::{Path, PathBuf};
 use std::process;
 use std::sync::atomic::{AtomicUsize, Ordering};
 
-use crate::names::Shown;
-use crate::progress::Meter;
-use crate::trouble::Trouble;
+use crate::output::error::Error;
+use crate::output::text::Shown;
+use crate::run::progress::Meter;
 
 /// So much is written between two looks at the meter.
 const PIECE: usize = 16 << 20;
 
-/// Files that are complete under temporary names. Those are removed when this is dropped.
+/// Targets that are complete under temporary names. Those are removed when this is dropped.
 #[derive(Default)]
-pub struct Pair {
+pub struct StagedFiles {
     files: Vec<Complete>,
 }
 
@@ -30,21 +30,21 @@ struct Placed<'a> {
     replaced: Option<PathBuf>,
 }
 
-impl Pair {
+impl StagedFiles {
     /// Writes a file whole, under a temporary name in the folder of its target.
-    pub fn write(&mut self, target: PathBuf, bytes: &[u8], meter: &Meter) -> Result<(), Trouble> {
-        let (mut file, temporary) = create(&target).map_err(|error| Trouble::with(&target, error))?;
+    pub fn write(&mut self, target: PathBuf, bytes: &[u8], meter: &Meter) -> Result<(), Error> {
+        let (mut file, temporary) = create(&target).map_err(|error| Error::with(&target, error))?;
         self.files.push(Complete { temporary, target });
         let target = &self.files[self.files.len() - 1].target;
         for piece in bytes.chunks(PIECE) {
-            file.write_all(piece).map_err(|error| Trouble::with(target, error))?;
+            file.write_all(piece).map_err(|error| Error::with(target, error))?;
             meter.advance(piece.len() as u64);
         }
-        file.flush().map_err(|error| Trouble::with(target, error))
+        file.flush().map_err(|error| Error::with(target, error))
     }
 
     /// Gives every file its name. Where one can't have it, those before it are undone.
-    pub fn place(&self, force: bool) -> Result<(), Trouble> {
+    pub fn place(&self, force: bool) -> Result<(), Error> {
         let mut placed = Vec::new();
         for file in &self.files {
             match file.place(force) {
@@ -58,14 +58,14 @@ impl Pair {
 }
 
 /// Undoes what was placed before a file failed.
-fn undo(placed: &[Placed], failed: &Complete, error: io::Error) -> Trouble {
+fn undo(placed: &[Placed], failed: &Complete, error: io::Error) -> Error {
     let mut what = failed_to(error);
     for one in placed.iter().rev() {
         if let Err(error) = one.undo() {
             what = format!("{what}; and {} can't be undone: {error}", Shown::path(one.target));
         }
     }
-    Trouble::with(&failed.target, what)
+    Error::with(&failed.target, what)
 }
 
 fn failed_to(error: io::Error) -> String {
@@ -158,7 +158,7 @@ fn remove(temporary: PathBuf) {
     fs::remove_file(temporary).ok();
 }
 
-impl Drop for Pair {
+impl Drop for StagedFiles {
     fn drop(&mut self) {
         self.files.drain(..).map(|file| file.temporary).for_each(remove);
     }

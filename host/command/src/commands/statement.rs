@@ -8,12 +8,13 @@ use clap::Args;
 use serde::Serialize;
 use usm::{Reason, Share, Tenant};
 
-use crate::crew::{self, Film, Task, Turn};
-use crate::films::Films;
-use crate::key;
-use crate::names::Shown;
-use crate::output::{About, Output, not_begun, say, tell};
-use crate::trouble::{Status, Trouble};
+use crate::options::key;
+use crate::output::json::About;
+use crate::output::text::Shown;
+use crate::output::{Error, Status};
+use crate::output::{Output, print_to, report, report_error};
+use crate::run::sources::Films;
+use crate::run::workers::{self, Film, Task, Turn};
 
 /// Say what tenants owe for the copies of films
 ///
@@ -38,40 +39,40 @@ pub struct Statement {
 impl Statement {
     pub fn run(self) -> Status {
         match tenants(&self.tenants) {
-            Ok(tenants) => crew::run(&Run { told: &self, tenants, totals: Mutex::default() }, &self.films),
-            Err(trouble) => not_begun(trouble),
+            Ok(tenants) => workers::run(&Run { options: &self, tenants, totals: Mutex::default() }, &self.films),
+            Err(error) => report_error(error),
         }
     }
 }
 
 /// Reads the tenants. Whether they may stand together is for the proved function to say.
-fn tenants(path: &Path) -> Result<Vec<Tenant>, Trouble> {
+fn tenants(path: &Path) -> Result<Vec<Tenant>, Error> {
     let mut reader = csv::ReaderBuilder::new()
         .has_headers(false)
         .flexible(true)
         .trim(csv::Trim::All)
         .from_path(path)
-        .map_err(|error| Trouble::with(path, error))?;
+        .map_err(|error| Error::with(path, error))?;
     let mut tenants = Vec::new();
     for (number, record) in reader.byte_records().enumerate() {
-        let record = record.map_err(|error| Trouble::with(path, error))?;
+        let record = record.map_err(|error| Error::with(path, error))?;
         let words: Vec<&[u8]> = record.iter().collect();
         match words[..] {
             [first, second] if number == 0 && first.eq_ignore_ascii_case(b"tenant") && second == b"key" => {}
             [first, second] => {
                 let line = record.position().map_or(0, csv::Position::line);
-                let wrong = |why: &str| Trouble::with(path, format!("line {line}: {why}"));
+                let wrong = |why: &str| Error::with(path, format!("line {line}: {why}"));
                 tenants.push(Tenant {
                     number: tenant(first).map_err(|why| wrong(&why))?,
                     key: typed(second).map_err(|why| wrong(&why))?,
                 });
             }
-            _ => return Err(Trouble::with(path, format!("record {}: it is no number and key", number + 1))),
+            _ => return Err(Error::with(path, format!("record {}: it is no number and key", number + 1))),
         }
     }
     // A film of no bytes is refused, and for its tenants before anything else.
     match usm::statement(&[], &tenants) {
-        Err(refusal) if refusal.reason == Reason::BadTenants => Err(Trouble::with(path, refusal.reason)),
+        Err(refusal) if refusal.reason == Reason::BadTenants => Err(Error::with(path, refusal.reason)),
         _ => Ok(tenants),
     }
 }
@@ -84,13 +85,13 @@ fn tenant(word: &[u8]) -> Result<u64, String> {
 fn typed(word: &[u8]) -> Result<u64, String> {
     let key = key::typed(&String::from_utf8_lossy(word)).map_err(|why| format!("{} is {why}", Shown::bytes(word)))?;
     if let Some(note) = &key.note {
-        say(Status::Well, &format!("note: {note}"));
+        report(Status::Success, &format!("note: {note}"));
     }
     Ok(key.number)
 }
 
 struct Run<'t> {
-    told: &'t Statement,
+    options: &'t Statement,
     tenants: Vec<Tenant>,
     totals: Mutex<Totals>,
 }
@@ -103,35 +104,35 @@ struct Totals {
 }
 
 impl Task for Run<'_> {
-    fn film<'a>(&'a self, film: Film<'a, '_>, turn: &Turn<'a, '_>) -> Result<(), Trouble> {
+    fn film<'a>(&'a self, film: Film<'a, '_>, turn: &Turn<'a, '_>) -> Result<(), Error> {
         let shares = usm::statement(film.bytes, &self.tenants)?;
-        let mut told = turn.take();
+        let mut printer = turn.take();
         self.add(&shares);
-        if self.told.films.json {
-            return told
+        if self.options.films.json {
+            return printer
                 .object(&Object { about: About::new(film.label), shares: shares.iter().map(Line::of).collect() });
         }
-        if self.told.csv {
-            let is_first = !told.is_begun();
-            return write_csv(is_first, shares.iter().map(|share| row(film.label, share)), &mut told);
+        if self.options.csv {
+            let is_first = !printer.is_begun();
+            return write_csv(is_first, shares.iter().map(|share| row(film.label, share)), &mut printer);
         }
-        tell_shares(film.label, &shares, &mut told)
+        print_shares(film.label, &shares, &mut printer)
     }
 
-    fn end(&self, output: &mut Output) -> Result<(), Trouble> {
+    fn end(&self, output: &mut Output) -> Result<(), Error> {
         let totals = self.totals.lock().unwrap_or_else(PoisonError::into_inner);
         if totals.films == 0 {
             return Ok(());
         }
-        if self.told.films.json {
+        if self.options.films.json {
             return output.object(&totals.object());
         }
-        if self.told.csv {
+        if self.options.csv {
             let rows =
                 totals.bytes.iter().map(|(tenant, bytes)| [Vec::new(), digits(*tenant), Vec::new(), digits(*bytes)]);
             return write_csv(false, rows, output);
         }
-        totals.tell(output)
+        totals.print(output)
     }
 }
 
@@ -145,22 +146,22 @@ impl Run<'_> {
     }
 }
 
-fn tell_shares(label: &Path, shares: &[Share], output: &mut Output) -> Result<(), Trouble> {
+fn print_shares(label: &Path, shares: &[Share], output: &mut Output) -> Result<(), Error> {
     output.gap()?;
-    tell!(output, "{}\n{:>20}  {:>20}  {:>12}\n", Shown::path(label), "tenant", "group", "bytes");
+    print_to!(output, "{}\n{:>20}  {:>20}  {:>12}\n", Shown::path(label), "tenant", "group", "bytes");
     for Share { tenant, group, bytes, .. } in shares {
-        tell!(output, "{tenant:>20}  {group:>20}  {bytes:>12}\n");
+        print_to!(output, "{tenant:>20}  {group:>20}  {bytes:>12}\n");
     }
     Ok(())
 }
 
 impl Totals {
-    fn tell(&self, output: &mut Output) -> Result<(), Trouble> {
+    fn print(&self, output: &mut Output) -> Result<(), Error> {
         output.gap()?;
         let films = if self.films == 1 { "1 film".to_string() } else { format!("{} films", self.films) };
-        tell!(output, "total of {films}\n{:>20}  {:>20}  {:>12}\n", "tenant", "", "bytes");
+        print_to!(output, "total of {films}\n{:>20}  {:>20}  {:>12}\n", "tenant", "", "bytes");
         for (tenant, bytes) in &self.bytes {
-            tell!(output, "{tenant:>20}  {:>20}  {bytes:>12}\n", "");
+            print_to!(output, "{tenant:>20}  {:>20}  {bytes:>12}\n", "");
         }
         Ok(())
     }
@@ -180,7 +181,7 @@ fn row(label: &Path, share: &Share) -> [Vec<u8>; 4] {
     [file, digits(share.tenant), digits(share.group), digits(share.bytes)]
 }
 
-fn write_csv(is_first: bool, rows: impl Iterator<Item = [Vec<u8>; 4]>, output: &mut Output) -> Result<(), Trouble> {
+fn write_csv(is_first: bool, rows: impl Iterator<Item = [Vec<u8>; 4]>, output: &mut Output) -> Result<(), Error> {
     let mut csv = csv::WriterBuilder::new().terminator(csv::Terminator::CRLF).from_writer(output);
     let write = || {
         if is_first {
@@ -192,7 +193,7 @@ fn write_csv(is_first: bool, rows: impl Iterator<Item = [Vec<u8>; 4]>, output: &
         csv.flush()?;
         Ok(())
     };
-    write().map_err(|error: csv::Error| Trouble::Output(error.into()))
+    write().map_err(|error: csv::Error| Error::Output(error.into()))
 }
 
 #[derive(Serialize)]

@@ -4,8 +4,8 @@ use clap::{Args, CommandFactory};
 use clap_complete::{Shell, generate};
 
 use crate::Arguments;
+use crate::output::error::Status;
 use crate::output::write_all;
-use crate::trouble::Status;
 
 /// Write completions for a shell
 #[derive(Args)]
@@ -17,6 +17,6 @@ impl Completions {
     pub fn run(self) -> Status {
         let mut script = Vec::new();
         generate(self.shell, &mut Arguments::command(), "usm", &mut script);
-        write_all(|output| std::io::Write::write_all(output, &script).map_err(crate::trouble::Trouble::Output))
+        write_all(|output| std::io::Write::write_all(output, &script).map_err(crate::output::error::Error::Output))
     }
 }

@@ -1,8 +1,8 @@
 //! A key as it is typed.
 
-use crate::names::Shown;
-use crate::output::say;
-use crate::trouble::Status;
+use crate::output::error::Status;
+use crate::output::report;
+use crate::output::text::Shown;
 
 /// A key, and what its word may have been meant for.
 #[derive(Clone, Debug, PartialEq, Eq)]
@@ -11,13 +11,13 @@ pub struct Key {
     pub note: Option<String>,
 }
 
-/// The key that `--key` gives, if it gives one. What is wrong with it, or may be, is told.
+/// The key that `--key` gives, if it gives one. Errors and notes are printed.
 pub fn given(word: Option<&str>) -> Result<Option<u64>, Status> {
     let Some(word) = word else { return Ok(None) };
     let key = typed(word)
-        .map_err(|why| say(Status::Trouble, &format!("--key {} is {why}", Shown::bytes(word.as_bytes()))))?;
+        .map_err(|why| report(Status::Failed, &format!("--key {} is {why}", Shown::bytes(word.as_bytes()))))?;
     if let Some(note) = &key.note {
-        say(Status::Well, &format!("note: {note}"));
+        report(Status::Success, &format!("note: {note}"));
     }
     Ok(Some(key.number))
 }

@@ -6,13 +6,14 @@ use clap::Args;
 use serde::Serialize;
 use usm::{Chunk, ChunkKind, Chunks, Outline, Track};
 
-use crate::choice::Choice;
-use crate::crew::{self, Film, Task, Turn};
-use crate::films::Films;
-use crate::list::listed;
-use crate::names::Shown;
-use crate::output::{About, AsHex, AsText, Output, as_some_string, as_string, tell};
-use crate::trouble::{Status, Trouble};
+use crate::commands::list::listed;
+use crate::options::reading::ReadingOptions;
+use crate::output::json::{About, AsHex, AsText, as_some_string, as_string};
+use crate::output::text::Shown;
+use crate::output::{Error, Status};
+use crate::output::{Output, print_to};
+use crate::run::sources::Films;
+use crate::run::workers::{self, Film, Task, Turn};
 
 /// Say what films hold
 ///
@@ -23,30 +24,30 @@ pub struct Info {
     #[command(flatten)]
     films: Films,
     #[command(flatten)]
-    choice: Choice,
+    choice: ReadingOptions,
 }
 
 impl Info {
     pub fn run(self) -> Status {
-        crew::run(&self, &self.films)
+        workers::run(&self, &self.films)
     }
 }
 
 impl Task for Info {
-    fn film<'a>(&'a self, film: Film<'a, '_>, turn: &Turn<'a, '_>) -> Result<(), Trouble> {
+    fn film<'a>(&'a self, film: Film<'a, '_>, turn: &Turn<'a, '_>) -> Result<(), Error> {
         let reading = self.choice.reading();
         let outline = usm::outline(film.bytes, reading)?;
         let facts = Facts::of(&outline, &listed(film.bytes, reading)?);
-        let mut told = turn.take();
+        let mut printer = turn.take();
         if self.films.json {
-            told.object(&Object::of(&film, &outline, &facts))
+            printer.object(&Object::of(&film, &outline, &facts))
         } else {
-            tell_film(&film, &outline, &facts, &mut told)
+            print_film(&film, &outline, &facts, &mut printer)
         }
     }
 }
 
-/// What the chunks tell of a film.
+/// What the chunks say of a film.
 struct Facts {
     /// How many chunks of a kind and channel there are, and the bytes of their payloads.
     counts: BTreeMap<(ChunkKind, u8), (usize, usize)>,
@@ -112,27 +113,27 @@ impl StreamFacts {
     }
 }
 
-fn tell_film(film: &Film, outline: &Outline, facts: &Facts, output: &mut Output) -> Result<(), Trouble> {
+fn print_film(film: &Film, outline: &Outline, facts: &Facts, output: &mut Output) -> Result<(), Error> {
     output.gap()?;
-    tell!(output, "{}\n", Shown::path(film.label));
+    print_to!(output, "{}\n", Shown::path(film.label));
     match outline.name {
-        Some(name) => tell!(output, "name    {}\n", Shown::bytes(name)),
-        None => tell!(output, "name    none\n"),
+        Some(name) => print_to!(output, "name    {}\n", Shown::bytes(name)),
+        None => print_to!(output, "name    none\n"),
     }
-    tell!(output, "bytes   {}\n", film.bytes.len());
-    tell!(output, "video   {}\n", stream(&outline.video, facts.video.end));
+    print_to!(output, "bytes   {}\n", film.bytes.len());
+    print_to!(output, "video   {}\n", stream(&outline.video, facts.video.end));
     match &outline.audio {
-        Some(track) => tell!(output, "audio   {}\n", stream(track, facts.audio.end)),
-        None => tell!(output, "audio   none\n"),
+        Some(track) => print_to!(output, "audio   {}\n", stream(track, facts.audio.end)),
+        None => print_to!(output, "audio   none\n"),
     }
-    tell!(output, "key     {}\n", shows(facts.video.shows_key, facts.audio.shows_key));
+    print_to!(output, "key     {}\n", shows(facts.video.shows_key, facts.audio.shows_key));
     let mut heading = "chunks";
     for ((kind, channel), (count, bytes)) in &facts.counts {
-        tell!(output, "{heading:<6}  {kind:<5}  channel {channel}: {count}, {bytes} bytes\n");
+        print_to!(output, "{heading:<6}  {kind:<5}  channel {channel}: {count}, {bytes} bytes\n");
         heading = "";
     }
     if facts.counts.is_empty() {
-        tell!(output, "chunks  none\n");
+        print_to!(output, "chunks  none\n");
     }
     Ok(())
 }

@@ -4,11 +4,12 @@ use clap::Args;
 use serde::Serialize;
 use usm::Offence;
 
-use crate::crew::{self, Film, Task, Turn};
-use crate::films::Films;
-use crate::names::Shown;
-use crate::output::{About, as_some_string, tell};
-use crate::trouble::{Status, Trouble};
+use crate::output::json::{About, as_some_string};
+use crate::output::print_to;
+use crate::output::text::Shown;
+use crate::output::{Error, Status};
+use crate::run::sources::Films;
+use crate::run::workers::{self, Film, Task, Turn};
 
 /// Check films against the delivery profile
 ///
@@ -24,25 +25,25 @@ pub struct Profile {
 
 impl Profile {
     pub fn run(self) -> Status {
-        crew::run(&self, &self.films)
+        workers::run(&self, &self.films)
     }
 }
 
 impl Task for Profile {
-    fn film<'a>(&'a self, film: Film<'a, '_>, turn: &Turn<'a, '_>) -> Result<(), Trouble> {
+    fn film<'a>(&'a self, film: Film<'a, '_>, turn: &Turn<'a, '_>) -> Result<(), Error> {
         let offence = usm::profile(film.bytes)?;
-        let mut told = turn.take();
+        let mut printer = turn.take();
         if offence.is_some() {
-            told.raise(Status::Refused);
+            printer.raise(Status::Refused);
         }
         if self.films.json {
-            return told.object(&Object { about: About::new(film.label), answer: Answer::of(offence) });
+            return printer.object(&Object { about: About::new(film.label), answer: Answer::of(offence) });
         }
         let file = Shown::path(film.label);
         match offence {
-            None => tell!(&mut *told, "{file}: plain\n"),
+            None => print_to!(&mut *printer, "{file}: plain\n"),
             Some(Offence { rule, place, .. }) => {
-                tell!(&mut *told, "{file}: not plain, rule {} at {place}: {rule}\n", rule.number())
+                print_to!(&mut *printer, "{file}: not plain, rule {} at {place}: {rule}\n", rule.number())
             }
         }
         Ok(())

@@ -5,14 +5,16 @@ use std::path::PathBuf;
 use clap::Args;
 use serde::Serialize;
 
-use crate::crew::{self, Film, Task, Turn};
-use crate::films::{Films, make_room};
-use crate::names::Shown;
-use crate::output::{About, AsHex, AsText, Output, as_string, not_begun, tell};
-use crate::pair::Pair;
-use crate::placing::{Files, Placing, stem};
-use crate::table::place;
-use crate::trouble::{Status, Trouble};
+use crate::commands::table::place;
+use crate::files::names::stem;
+use crate::files::staged::StagedFiles;
+use crate::files::targets::{OutputOptions, Targets};
+use crate::output::json::{About, AsHex, AsText, as_string};
+use crate::output::text::Shown;
+use crate::output::{Error, Status};
+use crate::output::{Output, print_to, report_error};
+use crate::run::sources::{Films, make_room};
+use crate::run::workers::{self, Film, Task, Turn};
 
 /// Write the tables of films' headers as CSV files
 ///
@@ -29,33 +31,33 @@ pub struct Csv {
     #[arg(long, value_name = "PLACE", value_parser = place)]
     at: Option<usize>,
     #[command(flatten)]
-    placing: Placing,
+    placing: OutputOptions,
 }
 
 impl Csv {
     pub fn run(self) -> Status {
-        match Files::new(&self.placing, &self.films) {
-            Ok(files) => crew::run(&Run { told: &self, files }, &self.films),
-            Err(trouble) => not_begun(trouble),
+        match Targets::new(&self.placing, &self.films) {
+            Ok(files) => workers::run(&Run { options: &self, files }, &self.films),
+            Err(error) => report_error(error),
         }
     }
 }
 
 struct Run<'t> {
-    told: &'t Csv,
-    files: Files,
+    options: &'t Csv,
+    files: Targets,
 }
 
 impl Task for Run<'_> {
     const STEPS: u64 = 2;
 
-    fn film<'a>(&'a self, film: Film<'a, '_>, turn: &Turn<'a, '_>) -> Result<(), Trouble> {
+    fn film<'a>(&'a self, film: Film<'a, '_>, turn: &Turn<'a, '_>) -> Result<(), Error> {
         let Film { label, bytes, video: text, meter, .. } = film;
-        let tables = match self.told.at {
+        let tables = match self.options.at {
             Some(place) => vec![(format!("{place}"), place)],
             None => usm::header_tables(bytes)?.iter().map(|table| (name(table), table.place)).collect(),
         };
-        let (mut targets, mut sizes, mut pair) = (Vec::new(), Vec::new(), Pair::default());
+        let (mut targets, mut sizes, mut pair) = (Vec::new(), Vec::new(), StagedFiles::default());
         for (name, place) in tables {
             text_of(bytes, place, text)?;
             if text.is_empty() {
@@ -67,14 +69,14 @@ impl Task for Run<'_> {
             targets.push(target);
             sizes.push(text.len());
         }
-        let (json, quiet) = (self.told.films.json, self.told.placing.quiet);
-        turn.hand_over(move |output| {
+        let (json, quiet) = (self.options.films.json, self.options.placing.quiet);
+        turn.finish_in_turn(move |output| {
             self.files.place(label, &pair, &targets)?;
             if json {
                 let files = targets.iter().zip(sizes).map(|(path, bytes)| Written::of(path, bytes)).collect();
                 return output.object(&Object { about: About::new(label), files });
             }
-            if quiet { Ok(()) } else { tell_files(&targets, &sizes, label, output) }
+            if quiet { Ok(()) } else { print_files(&targets, &sizes, label, output) }
         });
         Ok(())
     }
@@ -90,28 +92,28 @@ fn name(table: &usm::HeaderTable) -> String {
 const MOST: usize = 1 << 30;
 
 /// The text of the table at a place, in a buffer.
-pub fn text_of(bytes: &[u8], place: usize, text: &mut Vec<u8>) -> Result<(), Trouble> {
+pub fn text_of(bytes: &[u8], place: usize, text: &mut Vec<u8>) -> Result<(), Error> {
     let size = usm::csv_size(bytes, place)?;
     if size > MOST {
-        return Err(Trouble::System(format!("the table at {place} makes {size} bytes of CSV, and {MOST} is the most")));
+        return Err(Error::System(format!("the table at {place} makes {size} bytes of CSV, and {MOST} is the most")));
     }
     make_room(text, size)?;
     Ok(usm::csv_into(bytes, place, text)?)
 }
 
-fn tell_files(
+fn print_files(
     targets: &[PathBuf],
     sizes: &[usize],
     label: &std::path::Path,
     output: &mut Output,
-) -> Result<(), Trouble> {
+) -> Result<(), Error> {
     output.gap()?;
-    tell!(output, "{}\n", Shown::path(label));
+    print_to!(output, "{}\n", Shown::path(label));
     for (target, size) in targets.iter().zip(sizes) {
-        tell!(output, "written  {size} bytes: {}\n", Shown::path(target));
+        print_to!(output, "written  {size} bytes: {}\n", Shown::path(target));
     }
     if targets.is_empty() {
-        tell!(output, "written  nothing: no table has a column\n");
+        print_to!(output, "written  nothing: no table has a column\n");
     }
     Ok(())
 }

@@ -8,14 +8,14 @@ use std::sync::{Mutex, PoisonError};
 
 use clap::Args;
 
-use crate::films::{Films, sources};
-use crate::names::{Shown, safe};
-use crate::pair::{EXISTS, Pair};
-use crate::trouble::Trouble;
+use crate::files::staged::{EXISTS, StagedFiles};
+use crate::output::error::Error;
+use crate::output::text::Shown;
+use crate::run::sources::{Films, sources};
 
 /// What every command that makes files of films takes.
 #[derive(Args)]
-pub struct Placing {
+pub struct OutputOptions {
     /// Put the files in this folder, which is made if it is not there
     #[arg(long, short, value_name = "DIR")]
     output: Option<PathBuf>,
@@ -28,7 +28,7 @@ pub struct Placing {
 }
 
 /// The files of a run.
-pub struct Files {
+pub struct Targets {
     folder: Option<PathBuf>,
     force: bool,
     /// The films of this run.
@@ -37,15 +37,15 @@ pub struct Files {
     written: Mutex<HashMap<PathBuf, PathBuf>>,
 }
 
-impl Files {
+impl Targets {
     /// Of these films. The folder is made.
-    pub fn new(placing: &Placing, films: &Films) -> Result<Files, Trouble> {
+    pub fn new(placing: &OutputOptions, films: &Films) -> Result<Targets, Error> {
         let folder = placing.output.clone();
         if let Some(folder) = &folder {
-            fs::create_dir_all(folder).map_err(|error| Trouble::with(folder, error))?;
+            fs::create_dir_all(folder).map_err(|error| Error::with(folder, error))?;
         }
         let films = sources(&films.files).iter().filter_map(|film| film.label().canonicalize().ok()).collect();
-        Ok(Files { folder, force: placing.force, films, written: Mutex::default() })
+        Ok(Targets { folder, force: placing.force, films, written: Mutex::default() })
     }
 
     /// Whether the files have a folder of their own.
@@ -60,25 +60,25 @@ impl Files {
     }
 
     /// None of the files may be there, unless by force.
-    pub fn check(&self, targets: &[PathBuf]) -> Result<(), Trouble> {
+    pub fn check(&self, targets: &[PathBuf]) -> Result<(), Error> {
         match targets.iter().find(|target| target.symlink_metadata().is_ok()) {
-            Some(target) if !self.force => Err(Trouble::with(target, EXISTS)),
+            Some(target) if !self.force => Err(Error::with(target, EXISTS)),
             _ => Ok(()),
         }
     }
 
     /// Gives a film's files their names. Neither a film of this run nor a file that it wrote is replaced, even by force.
-    pub fn place(&self, label: &Path, pair: &Pair, targets: &[PathBuf]) -> Result<(), Trouble> {
+    pub fn place(&self, label: &Path, pair: &StagedFiles, targets: &[PathBuf]) -> Result<(), Error> {
         let mut written = self.written.lock().unwrap_or_else(PoisonError::into_inner);
         let mut places = Vec::new();
         for target in targets {
-            let place = whole(target).map_err(|error| Trouble::with(target, error))?;
+            let place = whole(target).map_err(|error| Error::with(target, error))?;
             if let Some(other) = written.get(&place) {
                 let what = format!("this run wrote it for {}", Shown::path(other));
-                return Err(Trouble::with(target, what));
+                return Err(Error::with(target, what));
             }
             if self.films.contains(&place) {
-                return Err(Trouble::with(target, "it is a film of this run"));
+                return Err(Error::with(target, "it is a film of this run"));
             }
             places.push(place);
         }
@@ -86,12 +86,6 @@ impl Files {
         written.extend(places.into_iter().map(|place| (place, label.to_path_buf())));
         Ok(())
     }
-}
-
-/// The name of a film's file, made safe and without its ending; that of standard input is `film`.
-pub fn stem(label: &Path) -> String {
-    let own = label.file_name().filter(|name| *name != "-").and_then(|name| safe(name.as_encoded_bytes()));
-    own.unwrap_or_else(|| "film".to_string())
 }
 
 /// A file by the one name of its folder.

@@ -2,10 +2,10 @@
 
 use clap::Args;
 
-use crate::films::Films;
-use crate::made::{self, Dropped, Made, Making};
-use crate::placing::Placing;
-use crate::trouble::{Status, Trouble};
+use crate::files::targets::OutputOptions;
+use crate::output::{Error, Status};
+use crate::run::rewrite::{self, Dropped, Rewrite, Rewritten};
+use crate::run::sources::Films;
 
 /// Save what arrived of films that were cut
 ///
@@ -18,23 +18,23 @@ pub struct Salvage {
     #[command(flatten)]
     films: Films,
     #[command(flatten)]
-    placing: Placing,
+    placing: OutputOptions,
 }
 
 impl Salvage {
     pub fn run(self) -> Status {
-        made::run(Salvaging, &self.films, &self.placing)
+        rewrite::run(Salvaging, &self.films, &self.placing)
     }
 }
 
 struct Salvaging;
 
-impl Making for Salvaging {
-    const WORD: &'static str = "salvaged";
+impl Rewrite for Salvaging {
+    const SUFFIX: &'static str = "salvaged";
 
-    fn make<'b>(&self, film: &'b [u8], _: &'b mut Vec<u8>) -> Result<Made<'b>, Trouble> {
+    fn make<'b>(&self, film: &'b [u8], _: &'b mut Vec<u8>) -> Result<Rewritten<'b>, Error> {
         let salvaged = usm::salvage(film)?;
         let dropped = Dropped { bytes: salvaged.dropped, cause: salvaged.cause };
-        Ok(Made { film: salvaged.film, dropped: Some(dropped) })
+        Ok(Rewritten { film: salvaged.film, dropped: Some(dropped) })
     }
 }

@@ -6,14 +6,15 @@ use clap::Args;
 use serde::Serialize;
 use usm::{Chunk, ChunkKind, Reading, Tenant};
 
-use crate::crew::{self, Film, Task, Turn};
-use crate::films::Films;
-use crate::info::{ADX, ADX_SHOWS_FROM, VIDEO_SHOWS_FROM};
-use crate::key::{self, Key};
-use crate::list::listed;
-use crate::names::Shown;
-use crate::output::{About, Output, as_string, say, tell};
-use crate::trouble::{Status, Trouble};
+use crate::commands::info::{ADX, ADX_SHOWS_FROM, VIDEO_SHOWS_FROM};
+use crate::commands::list::listed;
+use crate::options::key::{self, Key};
+use crate::output::json::{About, as_string};
+use crate::output::text::Shown;
+use crate::output::{Error, Status};
+use crate::output::{Output, print_to, report};
+use crate::run::sources::Films;
+use crate::run::workers::{self, Film, Task, Turn};
 
 /// Say whether two keys give the same streams
 ///
@@ -49,16 +50,16 @@ impl Keys {
             match key::typed(word) {
                 Ok(key) => keys.push(key),
                 Err(why) => {
-                    return say(Status::Trouble, &format!("{} is {why}", Shown::bytes(word.as_bytes())));
+                    return report(Status::Failed, &format!("{} is {why}", Shown::bytes(word.as_bytes())));
                 }
             }
         }
         for note in keys.iter().filter_map(|key: &Key| key.note.as_ref()) {
-            say(Status::Well, &format!("note: {note}"));
+            report(Status::Success, &format!("note: {note}"));
         }
         let answer = Answer { first: keys[0].number, second: keys[1].number };
         let films = Films { files: self.files, jobs: self.jobs, json: self.json };
-        crew::run(&Run { answer, json: self.json }, &films)
+        workers::run(&Run { answer, json: self.json }, &films)
     }
 }
 
@@ -68,22 +69,25 @@ struct Run {
 }
 
 impl Task for Run {
-    fn begin(&self, output: &mut Output) -> Result<(), Trouble> {
-        if self.json { output.object(&self.answer.object()) } else { self.answer.tell(output) }
+    fn begin(&self, output: &mut Output) -> Result<(), Error> {
+        if self.json { output.object(&self.answer.object()) } else { self.answer.print(output) }
     }
 
-    fn film<'a>(&'a self, film: Film<'a, '_>, turn: &Turn<'a, '_>) -> Result<(), Trouble> {
+    fn film<'a>(&'a self, film: Film<'a, '_>, turn: &Turn<'a, '_>) -> Result<(), Error> {
         let shown = self.answer.shown(film.bytes)?;
-        let mut told = turn.take();
+        let mut printer = turn.take();
         if self.json {
             let same_streams = shown.is_none();
-            return told.object(&FilmObject { about: About::new(film.label), same_streams, shown });
+            return printer.object(&FilmObject { about: About::new(film.label), same_streams, shown });
         }
         let file = Shown::path(film.label);
         match shown {
-            None => tell!(&mut *told, "\n{file}: the same streams under both keys\n"),
+            None => print_to!(&mut *printer, "\n{file}: the same streams under both keys\n"),
             Some(Shows { stream, at, .. }) => {
-                tell!(&mut *told, "\n{file}: different streams, first in the {stream} payload of the chunk at {at}\n")
+                print_to!(
+                    &mut *printer,
+                    "\n{file}: different streams, first in the {stream} payload of the chunk at {at}\n"
+                )
             }
         }
         Ok(())
@@ -123,7 +127,7 @@ impl Answer {
     }
 
     /// Where a film shows that the keys are two. Whether it does at all the statement's function says, which is proved.
-    fn shown(&self, film: &[u8]) -> Result<Option<Shows>, Trouble> {
+    fn shown(&self, film: &[u8]) -> Result<Option<Shows>, Error> {
         let tenants = [(0, self.first), (1, self.second)].map(|(number, key)| Tenant { number, key });
         let is_adx = usm::outline(film, Reading::default())?.audio.is_some_and(|track| track.codec == Some(ADX));
         if usm::statement(film, &tenants)?.iter().all(|share| share.group == 0) {
@@ -163,15 +167,15 @@ impl Answer {
         }
     }
 
-    fn tell(&self, output: &mut Output) -> Result<(), Trouble> {
+    fn print(&self, output: &mut Output) -> Result<(), Error> {
         let row = |mark: &dyn Fn(usize) -> char| (0..PLACES).map(mark).collect::<String>();
         let counts = row(&|place| if counts(place) { '+' } else { '-' });
         let differs = row(&|place| if self.differs(place) { '^' } else { '.' });
-        tell!(output, "first key   {:016X}\n", self.first);
-        tell!(output, "second key  {:016X}\n", self.second);
-        tell!(output, "counts      {counts}  + can touch a picture and ADX sound, - never does\n");
-        tell!(output, "differs     {differs}  ^ the two keys have different digits here\n\n");
-        tell!(output, "{}", self.verdict());
+        print_to!(output, "first key   {:016X}\n", self.first);
+        print_to!(output, "second key  {:016X}\n", self.second);
+        print_to!(output, "counts      {counts}  + can touch a picture and ADX sound, - never does\n");
+        print_to!(output, "differs     {differs}  ^ the two keys have different digits here\n\n");
+        print_to!(output, "{}", self.verdict());
         Ok(())
     }
 

@@ -8,8 +8,8 @@ use std::time::Duration;
 
 use indicatif::{ProgressBar, ProgressDrawTarget, ProgressStyle};
 
-use crate::output::say;
-use crate::trouble::Status;
+use crate::output::error::Status;
+use crate::output::report;
 
 const BEFORE_IT_SHOWS: Duration = Duration::from_secs(1);
 const WITH_TOTAL: &str = "{wide_bar} {bytes} of {total_bytes}, {bytes_per_sec}, {eta} left";
@@ -32,9 +32,9 @@ impl Progress {
         Progress { bar, shows }
     }
 
-    /// Tells something on standard error, above the bar where it shows.
-    pub fn say(&self, what: &str) {
-        self.bar.suspend(|| say(Status::Well, what));
+    /// Prints a message on standard error, above the bar where it shows.
+    pub fn report(&self, what: &str) {
+        self.bar.suspend(|| report(Status::Success, what));
     }
 
     /// The bar itself, for what writes beside it.

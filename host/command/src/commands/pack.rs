@@ -8,14 +8,15 @@ use clap::Args;
 use serde::Serialize;
 use usm::Streams;
 
-use crate::codecs::Codecs;
-use crate::films::{Source, make_room};
-use crate::key;
-use crate::names::Shown;
-use crate::output::{About, NotDone, Output, as_some_string, as_string, not_begun, say, tell, write_all};
-use crate::pair::Pair;
-use crate::progress::{Meter, Progress};
-use crate::trouble::{Status, Trouble};
+use crate::files::staged::StagedFiles;
+use crate::options::codecs::Codecs;
+use crate::options::key;
+use crate::output::json::{About, FailedFilm, as_some_string, as_string};
+use crate::output::text::Shown;
+use crate::output::{Error, Status};
+use crate::output::{Output, print_to, report, report_error, write_all};
+use crate::run::progress::{Meter, Progress};
+use crate::run::sources::{Source, make_room};
 
 /// Pack streams into a film
 ///
@@ -62,7 +63,7 @@ impl Pack {
         };
         let (video, audio) = (source(&self.video), self.audio.as_deref().map(source));
         if matches!((&video, &audio), (Source::StandardInput, Some(Source::StandardInput))) {
-            return say(Status::Trouble, "standard input can't be both streams");
+            return report(Status::Failed, "standard input can't be both streams");
         }
         let sources = [Some(video), audio];
         let total: Option<u64> = sources.iter().flatten().map(Source::length).sum();
@@ -70,17 +71,17 @@ impl Pack {
         let packed = self.pack(key, &sources, &Meter::new(&progress, 2, total.unwrap_or(0)));
         progress.end();
         match packed {
-            Ok(sizes) => write_all(|output| self.tell(&sizes, output)),
-            Err(trouble) => self.not_done(trouble),
+            Ok(sizes) => write_all(|output| self.print(&sizes, output)),
+            Err(error) => self.fail(error),
         }
     }
 
     /// Reads video and audio, writes the film, and gives it its name.
-    fn pack(&self, key: Option<u64>, sources: &[Option<Source>; 2], meter: &Meter) -> Result<Sizes, Trouble> {
+    fn pack(&self, key: Option<u64>, sources: &[Option<Source>; 2], meter: &Meter) -> Result<Sizes, Error> {
         let mut streams = [const { Vec::new() }; 2];
         for (source, stream) in sources.iter().zip(&mut streams) {
             if let Some(source) = source {
-                source.read(stream, meter).map_err(|trouble| trouble.of(source.label()))?;
+                source.read(stream, meter).map_err(|error| error.of(source.label()))?;
             }
         }
         let [video, audio] = &streams;
@@ -91,7 +92,7 @@ impl Pack {
         let mut film = Vec::new();
         make_room(&mut film, usm::packed_size(packed)?)?;
         usm::pack_into(packed, key, &mut film)?;
-        let mut pair = Pair::default();
+        let mut pair = StagedFiles::default();
         pair.write(self.output.clone(), &film, meter)?;
         pair.place(self.force)?;
         Ok(Sizes { film: film.len(), video: video.len(), audio: self.audio.as_ref().map(|_| audio.len()) })
@@ -103,26 +104,26 @@ impl Pack {
         own.map_or(b"", OsStrExt::as_bytes)
     }
 
-    fn tell(&self, sizes: &Sizes, output: &mut Output) -> Result<(), Trouble> {
+    fn print(&self, sizes: &Sizes, output: &mut Output) -> Result<(), Error> {
         if self.json {
             return output.object(&Packed { about: About::new(&self.output), sizes });
         }
         if !self.quiet {
             let audio = sizes.audio.map_or("no audio".to_string(), |audio| format!("audio {audio}"));
             let Sizes { film, video, .. } = sizes;
-            tell!(output, "{}: {film} bytes, video {video}, {audio}\n", Shown::path(&self.output));
+            print_to!(output, "{}: {film} bytes, video {video}, {audio}\n", Shown::path(&self.output));
         }
         Ok(())
     }
 
-    fn not_done(&self, trouble: Trouble) -> Status {
-        let told =
-            write_all(|output| if self.json { output.object(&NotDone::new(&self.output, &trouble)) } else { Ok(()) });
-        let status = match trouble {
-            Trouble::Refused(refusal) => say(Status::Refused, &format!("{}: {refusal}", Shown::path(&self.output))),
-            trouble => not_begun(trouble),
+    fn fail(&self, error: Error) -> Status {
+        let printed =
+            write_all(|output| if self.json { output.object(&FailedFilm::new(&self.output, &error)) } else { Ok(()) });
+        let status = match error {
+            Error::Refused(refusal) => report(Status::Refused, &format!("{}: {refusal}", Shown::path(&self.output))),
+            error => report_error(error),
         };
-        status.max(told)
+        status.max(printed)
     }
 }
 

@@ -1,0 +1,15 @@
+//! The subcommands, one in each file.
+
+pub mod completions;
+pub mod csv;
+pub mod extract;
+pub mod from_old;
+pub mod info;
+pub mod keys;
+pub mod list;
+pub mod pack;
+pub mod profile;
+pub mod salvage;
+pub mod statement;
+pub mod table;
+pub mod to_old;

@@ -1,0 +1,5 @@
+//! The files that a run makes: their names, how they come into being, and where they go.
+
+pub mod names;
+pub mod staged;
+pub mod targets;

@@ -1,0 +1,5 @@
+//! Options that several commands share.
+
+pub mod codecs;
+pub mod key;
+pub mod reading;

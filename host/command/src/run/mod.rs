@@ -1,0 +1,6 @@
+//! Running a command on many films: where they come from, the workers, and the progress.
+
+pub mod progress;
+pub mod rewrite;
+pub mod sources;
+pub mod workers;
