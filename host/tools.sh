@@ -3,7 +3,8 @@
 made=$root/target/host
 built=$made/release
 packages=(librust-clap-dev librust-clap-complete-dev librust-csv-dev librust-encoding-rs-dev librust-indicatif-dev
-    librust-serde-dev librust-serde-json-dev)
+    librust-nix-dev librust-rustix-dev librust-serde-dev librust-serde-json-dev librust-signal-hook-dev
+    librust-walkdir-dev)
 oldest_rust=1.88
 
 say() {
@@ -80,7 +81,7 @@ leant_on() {
     echo "$found"
 }
 
-# Whether a library is there and no crate has changed since it was written.
+# Whether a library is there and no crate has changed since its proving began: the archive has the time of that moment.
 is_proved() {
     local archive=$root/target/staticlib/lib$1.a
     [ -e "$archive" ] && [ -z "$(find "$root/crates" "$root/crates.txt" -type f -newer "$archive" -print -quit)" ]
@@ -88,8 +89,9 @@ is_proved() {
 
 # Proves a library, and says how far it is. What is proved already is not proved again.
 prove() {
-    local name=$1 line="" log=$made/proving-$1.log done=0 all
+    local name=$1 line="" log=$made/proving-$1.log begun=$made/begun-$1 done=0 all
     ! is_proved "$name" || return 0
+    touch "$begun"
     all=$(leant_on "$name" | wc -l)
     say "proving lib$name.a and the $all crates below it: some $2 on two processors, once"
     while IFS= read -r line; do
@@ -103,6 +105,8 @@ prove() {
         tail -n 20 "$log" >&2
         stop "rt staticlib $name failed; $log has all it said"
     }
+    # What was edited meanwhile is newer, and is proved again.
+    touch --reference="$begun" "$root/target/staticlib/lib$name.a"
 }
 
 # Builds libraries and command.
@@ -113,8 +117,9 @@ build() {
     prove usm "10 minutes"
     prove player "2 minutes"
     say "building the command: some 2 minutes, once"
+    touch "$made/build-begun"
     run_cargo "$root/host" build --quiet --release -p usm-command
-    touch "$made/is-built"
+    touch --reference="$made/build-begun" "$made/is-built"
 }
 
 # Whether nothing that the command is made of has changed since it was built.
