@@ -20,7 +20,8 @@ use output::Status;
 
 /// Looks into USM films, extracts them and packs them
 ///
-/// Each FILE is a film, a folder, of which all films that end in .usm are taken, or - for standard input. A film that is
+/// Each FILE is a film, a folder, of which all files that end in .usm are taken, or - for standard input. In folders,
+/// hidden entries, links, pipes and devices are passed over. A file that is named twice is done once. A film that is
 /// refused or can't be read does not stop the others.
 #[derive(Parser)]
 #[command(name = "usm", version, after_help = STATUS, disable_help_subcommand = true)]
@@ -51,7 +52,7 @@ enum Command {
 }
 
 fn main() -> ExitCode {
-    let status = match Arguments::try_parse() {
+    let status = match Arguments::try_parse_from(options::jobs::joined(std::env::args_os())) {
         Ok(arguments) => run(arguments.command),
         Err(error) => print_usage(error),
     };

@@ -2,7 +2,7 @@
 
 use std::fmt;
 
-use crate::{Reading, Refusal, ffi, sized};
+use crate::{Error, Reading, Refusal, ffi, sized};
 
 /// The chunks of a film, in their order. It holds 24 bytes for each.
 #[derive(Clone, Debug)]
@@ -50,7 +50,7 @@ pub enum ChunkKind {
 /// assert_eq!(longest, Some(608));
 /// # Ok::<(), Box<dyn std::error::Error>>(())
 /// ```
-pub fn list(film: &[u8], reading: Reading) -> Result<Chunks<'_>, Refusal> {
+pub fn list(film: &[u8], reading: Reading) -> Result<Chunks<'_>, Error> {
     let records = sized::listed(|records| ffi::list(film, reading.for_c(), records))?;
     Ok(Chunks { film, records })
 }
@@ -126,16 +126,20 @@ fn chunk<'a>(film: &'a [u8], record: &ffi::Chunk) -> Chunk<'a> {
     let bytes = &film[record.start..];
     Chunk {
         start: record.start,
-        kind: match record.kind {
-            0 => ChunkKind::Video,
-            1 => ChunkKind::Audio,
-            2 => ChunkKind::Other,
-            _ => ChunkKind::End,
-        },
+        kind: kind_of(record.kind),
         data_type: record.data_type,
         letters: [bytes[0], bytes[1], bytes[2], bytes[3]],
         channel: record.channel,
         payload: &bytes[record.offset as usize..][..record.length],
+    }
+}
+
+pub(crate) fn kind_of(number: u8) -> ChunkKind {
+    match number {
+        0 => ChunkKind::Video,
+        1 => ChunkKind::Audio,
+        2 => ChunkKind::Other,
+        _ => ChunkKind::End,
     }
 }
 

@@ -16,12 +16,13 @@
 
 use std::error::Error;
 use std::fmt;
-use std::io::{self, ErrorKind, Read, Seek, SeekFrom};
+use std::io::{self, ErrorKind, Read, Seek};
 use std::path::Path;
 
 use encoding_rs::SHIFT_JIS;
 
-use crate::{Audio, LONGEST_FILM, Reading, Reason, Refusal};
+use crate::error::make_room;
+use crate::{Audio, ChunkKind, Error as CallError, Reader, Reading, Reason, Refusal, Stream};
 
 /// A stream of a film.
 #[derive(Debug, Clone, PartialEq, Eq)]
@@ -38,7 +39,8 @@ pub struct ExtractedUsmStream {
 #[derive(Debug)]
 pub enum UsmError {
     /// The reader's own error; `UnexpectedEof` where the film's bytes run out; `InvalidData`, with the [`Refusal`]
-    /// inside, where a size is too small, a table has over 64 columns or 256 rows, or the film is longer than 1 GiB.
+    /// inside, where a size is too small, a table has over 64 columns or 256 rows, or the film is longer than 1 GiB;
+    /// `OutOfMemory` where there is none for the film or its streams.
     Io(io::Error),
     /// There is no `CRID` at the start.
     InvalidCridSignature,
@@ -53,33 +55,53 @@ pub enum UsmError {
 }
 
 /// Extracts the streams of a film: video, and audio where the film has some and `export_audio` asks for it. The reader
-/// is read whole, from its start.
+/// is read from its start, its chunks first, then their payloads.
 pub fn extract_usm_to_memory<R: Read + Seek>(
-    usm: R,
+    mut usm: R,
     fallback_name: &[u8],
     key: Option<u64>,
     export_audio: bool,
 ) -> Result<Vec<ExtractedUsmStream>, UsmError> {
-    let container = read_whole(usm)?;
+    usm.rewind()?;
     let audio = if export_audio { Audio::All } else { Audio::None };
-    let film = crate::extract(&container, Reading::default().with_audio(audio), key)?;
-    let name = stem(film.outline.name.unwrap_or(fallback_name));
+    let mut film = Reader::new(usm, Reading::default().with_audio(audio))?;
+    let [video, audio] = both_streams(&mut film, key)?;
+    let header = film.header();
+    let name = stem(header.name.as_deref().unwrap_or(fallback_name));
     let stream = |extension: String, data| ExtractedUsmStream { name: name.clone(), extension, data };
-    let mut streams = vec![stream(film.outline.video.kind.to_string(), film.video)];
-    if let (Some(track), Some(audio)) = (film.outline.audio, film.audio) {
-        streams.push(stream(track.kind.to_string(), audio));
+    let mut streams = vec![stream(header.video.kind.to_string(), video)];
+    if let (Some(format), true) = (&header.audio, export_audio) {
+        streams.push(stream(format.kind.to_string(), audio));
     }
     Ok(streams)
 }
 
-/// All bytes of a reader. One that is too long is refused by its length, before it is read.
-fn read_whole<R: Read + Seek>(mut reader: R) -> Result<Vec<u8>, UsmError> {
-    let length = reader.seek(SeekFrom::End(0))?;
-    Refusal::by_length(length)?;
-    reader.seek(SeekFrom::Start(0))?;
-    let mut container = Vec::with_capacity(length as usize);
-    reader.take(LONGEST_FILM as u64 + 1).read_to_end(&mut container)?;
-    Ok(container)
+/// Video and audio of a film, each in a vector of just its size.
+fn both_streams<R: Read + Seek>(film: &mut Reader<R>, key: Option<u64>) -> Result<[Vec<u8>; 2], CallError> {
+    let mut sizes = [0; 2];
+    for chunk in film.chunks() {
+        let chunk = chunk?;
+        match chunk.kind {
+            ChunkKind::Video => sizes[0] += chunk.length,
+            ChunkKind::Audio => sizes[1] += chunk.length,
+            _ => {}
+        }
+    }
+    film.rewind()?;
+    let mut streams = [Vec::new(), Vec::new()];
+    for (stream, size) in streams.iter_mut().zip(sizes) {
+        make_room(stream, size)?;
+    }
+    while let Some(part) = film.next_part(key)? {
+        let stream = match part.stream {
+            Stream::Video => &mut streams[0],
+            Stream::Audio => &mut streams[1],
+        };
+        // A reader that gives other bytes the second time could ask for more room than there is.
+        make_room(stream, stream.len() + part.bytes.len())?;
+        stream.extend_from_slice(part.bytes);
+    }
+    Ok(streams)
 }
 
 /// The name without folders and ending, as the original makes it.
@@ -92,6 +114,15 @@ fn stem(name: &[u8]) -> String {
 impl From<io::Error> for UsmError {
     fn from(error: io::Error) -> UsmError {
         UsmError::Io(error)
+    }
+}
+
+impl From<CallError> for UsmError {
+    fn from(error: CallError) -> UsmError {
+        match error {
+            CallError::Refused(refusal) => refusal.into(),
+            error => UsmError::Io(error.into()),
+        }
     }
 }
 

@@ -166,23 +166,75 @@ pub struct SeekReply {
     pub found: u8,
 }
 
-// What usm.h says of these sizes.
-const _: () = assert!(size_of::<Reading>() == 4);
-const _: () = assert!(size_of::<Key>() == 16);
-const _: () = assert!(size_of::<TableReply>() == 32);
-const _: () = assert!(size_of::<CellReply>() == 32);
-const _: () = assert!(size_of::<FilmReply>() == 56);
-const _: () = assert!(size_of::<Chunk>() == 24);
-const _: () = assert!(size_of::<ListReply>() == 24);
-const _: () = assert!(size_of::<SizeReply>() == 24);
-const _: () = assert!(size_of::<Packing>() == 32);
-const _: () = assert!(size_of::<Codecs>() == 12);
-const _: () = assert!(size_of::<SalvageReply>() == 32);
-const _: () = assert!(size_of::<ProfileReply>() == 24);
-const _: () = assert!(size_of::<Tenant>() == 16);
-const _: () = assert!(size_of::<Share>() == 24);
-const _: () = assert!(size_of::<IndexEntry>() == 24);
-const _: () = assert!(size_of::<SeekReply>() == 24);
+#[repr(C)]
+#[derive(Clone, Copy)]
+pub struct KeyBitsReply {
+    pub refused_at: usize,
+    pub bits: u64,
+    pub number: u8,
+    pub unknown_type: u8,
+}
+
+#[repr(C)]
+#[derive(Clone, Copy)]
+pub struct OpenReply {
+    pub film: FilmReply,
+    pub chunks: usize,
+    pub more: u8,
+}
+
+#[repr(C)]
+#[derive(Clone, Copy, Debug)]
+pub struct FilmAudio {
+    pub codec: u32,
+    pub present: u8,
+    pub has_codec: u8,
+}
+
+#[repr(C)]
+#[derive(Clone, Copy)]
+pub struct StepReply {
+    pub refused_at: usize,
+    pub next: usize,
+    pub payload: usize,
+    pub length: usize,
+    pub number: u8,
+    pub unknown_type: u8,
+    pub found: u8,
+    pub kind: u8,
+    pub data_type: u8,
+    pub channel: u8,
+    pub mask: u8,
+}
+
+/// Holds a struct to the size and the offsets that usm.h gives it.
+macro_rules! is_laid_out {
+    ($name:ident, $size:literal, $($field:ident: $offset:literal),+) => {
+        const _: () = assert!(size_of::<$name>() == $size);
+        $(const _: () = assert!(std::mem::offset_of!($name, $field) == $offset);)+
+    };
+}
+
+is_laid_out!(Reading, 4, audio: 0, channel: 1, payloads: 2, tables: 3);
+is_laid_out!(Key, 16, number: 0, given: 8);
+is_laid_out!(TableReply, 32, refused_at: 0, columns: 8, rows: 16, number: 24, unknown_type: 25);
+is_laid_out!(CellReply, 32, refused_at: 0, value: 8, length: 16, number: 24, unknown_type: 25, kind: 26);
+is_laid_out!(FilmReply, 56, refused_at: 0, name_start: 8, name_length: 16, video_size: 24, audio_size: 32, video_codec: 40, audio_codec: 44, number: 48, unknown_type: 49, name_source: 50, has_audio: 51, has_video_codec: 52, has_audio_codec: 53, video_kind: 54, audio_kind: 55);
+is_laid_out!(Chunk, 24, start: 0, kind: 8, data_type: 9, channel: 10, offset: 12, length: 16);
+is_laid_out!(ListReply, 24, refused_at: 0, count: 8, number: 16, unknown_type: 17);
+is_laid_out!(SizeReply, 24, refused_at: 0, size: 8, number: 16, unknown_type: 17);
+is_laid_out!(Packing, 32, key: 0, video_codec: 16, audio_codec: 20, has_audio: 24, has_video_codec: 25, has_audio_codec: 26);
+is_laid_out!(Codecs, 12, video_codec: 0, audio_codec: 4, has_video_codec: 8, has_audio_codec: 9);
+is_laid_out!(SalvageReply, 32, refused_at: 0, kept: 8, dropped: 16, number: 24, unknown_type: 25, cause: 26);
+is_laid_out!(ProfileReply, 24, refused_at: 0, place: 8, number: 16, unknown_type: 17, rule: 18, stream: 19);
+is_laid_out!(Tenant, 16, number: 0, key: 8);
+is_laid_out!(Share, 24, tenant: 0, group: 8, share: 16);
+is_laid_out!(IndexEntry, 24, place: 0, chunk: 8, length: 16);
+is_laid_out!(KeyBitsReply, 24, refused_at: 0, bits: 8, number: 16, unknown_type: 17);
+is_laid_out!(OpenReply, 72, film: 0, chunks: 56, more: 64);
+is_laid_out!(FilmAudio, 8, codec: 0, present: 4, has_codec: 5);
+is_laid_out!(StepReply, 40, refused_at: 0, next: 8, payload: 16, length: 24, number: 32, unknown_type: 33, found: 34, kind: 35, data_type: 36, channel: 37, mask: 38);
+is_laid_out!(SeekReply, 24, chunk: 0, offset: 8, found: 16);
 
 #[link(name = "player", kind = "static")]
 unsafe extern "C" {
@@ -244,6 +296,17 @@ unsafe extern "C" {
         room: usize,
     ) -> ListReply;
     fn usm_index(container: *const u8, len: usize, index: *mut IndexEntry, room: usize) -> ListReply;
+    fn usm_key_bits(container: *const u8, len: usize, reading: Reading) -> KeyBitsReply;
+    fn usm_open(beginning: *const u8, len: usize, total: usize, reading: Reading) -> OpenReply;
+    fn usm_step(
+        window: *const u8,
+        len: usize,
+        place: usize,
+        total: usize,
+        reading: Reading,
+        audio: FilmAudio,
+    ) -> StepReply;
+    fn usm_clear(key: u64, mask: u8, payload: *mut u8, len: usize);
     fn usm_seek(index: *const IndexEntry, count: usize, byte: u64) -> SeekReply;
 }
 
@@ -273,15 +336,17 @@ pub fn mask_audio(key: u64, payload: &mut [u8]) {
     unsafe { usm_mask_audio(key, payload.as_mut_ptr(), payload.len()) }
 }
 
-/// Tables as the original reads them.
-const AS_THE_ORIGINAL: Reading = Reading { audio: 0, channel: 0, payloads: 0, tables: 0 };
-
-pub fn table(bytes: &[u8], place: usize) -> TableReply {
-    unsafe { usm_table(bytes.as_ptr(), bytes.len(), place, AS_THE_ORIGINAL) }
+/// How tables are read by themselves: of a reading only `tables` counts.
+fn by_itself(tables: u8) -> Reading {
+    Reading { audio: 0, channel: 0, payloads: 0, tables }
 }
 
-pub fn cell(bytes: &[u8], place: usize, name: &[u8], row: usize) -> CellReply {
-    unsafe { usm_cell(bytes.as_ptr(), bytes.len(), place, name.as_ptr(), name.len(), row, AS_THE_ORIGINAL) }
+pub fn table(bytes: &[u8], place: usize, tables: u8) -> TableReply {
+    unsafe { usm_table(bytes.as_ptr(), bytes.len(), place, by_itself(tables)) }
+}
+
+pub fn cell(bytes: &[u8], place: usize, name: &[u8], row: usize, tables: u8) -> CellReply {
+    unsafe { usm_cell(bytes.as_ptr(), bytes.len(), place, name.as_ptr(), name.len(), row, by_itself(tables)) }
 }
 
 /// A film's reply without its streams: both outputs have no room.
@@ -297,6 +362,7 @@ pub fn extract(container: &[u8], reading: Reading, key: Key, video: &mut Vec<u8>
     audio.clear();
     let reply = extract_to(container, reading, key, video.spare_capacity_mut(), audio.spare_capacity_mut());
     if reply.number == 0 {
+        assert!(reply.video_size <= video.capacity() && reply.audio_size <= audio.capacity());
         // SAFETY: an accepted film has written as many bytes to each as its size says, and they fit the room.
         unsafe {
             video.set_len(reply.video_size);
@@ -306,7 +372,8 @@ pub fn extract(container: &[u8], reading: Reading, key: Key, video: &mut Vec<u8>
     reply
 }
 
-/// Outputs need not hold anything: what was not written is not read.
+/// Outputs need not hold anything: the contract is an equation for every content that they have at the call, so no answer
+/// depends on it, and the code writes a byte before it reads it.
 fn extract_to(
     container: &[u8],
     reading: Reading,
@@ -357,6 +424,7 @@ fn fill_list<T>(list: &mut Vec<T>, call: impl FnOnce(&mut [MaybeUninit<T>]) -> L
     list.clear();
     let reply = call(list.spare_capacity_mut());
     if reply.number == 0 {
+        assert!(reply.count <= list.capacity());
         // SAFETY: an accepted call has filled as many records as its count says, and they fit the room.
         unsafe { list.set_len(reply.count) };
     }
@@ -369,6 +437,22 @@ pub fn salvage(container: &[u8]) -> SalvageReply {
 
 pub fn seek(entries: &[IndexEntry], byte: u64) -> SeekReply {
     unsafe { usm_seek(entries.as_ptr(), entries.len(), byte) }
+}
+
+pub fn key_bits(container: &[u8], reading: Reading) -> KeyBitsReply {
+    unsafe { usm_key_bits(container.as_ptr(), container.len(), reading) }
+}
+
+pub fn open(beginning: &[u8], total: usize, reading: Reading) -> OpenReply {
+    unsafe { usm_open(beginning.as_ptr(), beginning.len(), total, reading) }
+}
+
+pub fn step(window: &[u8], place: usize, total: usize, reading: Reading, audio: FilmAudio) -> StepReply {
+    unsafe { usm_step(window.as_ptr(), window.len(), place, total, reading, audio) }
+}
+
+pub fn clear(key: u64, mask: u8, payload: &mut [u8]) {
+    unsafe { usm_clear(key, mask, payload.as_mut_ptr(), payload.len()) }
 }
 
 pub fn profile(container: &[u8]) -> ProfileReply {
@@ -395,13 +479,14 @@ pub fn to_old(container: &[u8], film: &mut Vec<u8>) -> SizeReply {
 }
 
 /// Writes a table as CSV, likewise.
-pub fn csv(bytes: &[u8], place: usize, text: &mut Vec<u8>) -> SizeReply {
-    fill(text, |out, room| unsafe { usm_csv(bytes.as_ptr(), bytes.len(), place, AS_THE_ORIGINAL, out, room) })
+pub fn csv(bytes: &[u8], place: usize, tables: u8, text: &mut Vec<u8>) -> SizeReply {
+    fill(text, |out, room| unsafe { usm_csv(bytes.as_ptr(), bytes.len(), place, by_itself(tables), out, room) })
 }
 
 fn fill(output: &mut Vec<u8>, call: impl FnOnce(*mut u8, usize) -> SizeReply) -> SizeReply {
     let reply = call(output.as_mut_ptr(), output.capacity());
     if reply.number == 0 {
+        assert!(reply.size <= output.capacity());
         // SAFETY: an accepted call has written as many bytes as its size says, and they fit the room.
         unsafe { output.set_len(reply.size) };
     }

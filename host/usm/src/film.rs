@@ -2,9 +2,9 @@
 
 use std::fmt;
 
+use crate::error::make_room;
 use crate::ffi::{self, FilmReply, Key};
-use crate::header::header_of;
-use crate::{Audio, Reading, Refusal};
+use crate::{Audio, Error, Reading, Refusal};
 
 /// What a film holds, without the bytes of its streams. The name is a part of the film.
 #[derive(Clone, PartialEq, Eq, Debug)]
@@ -66,31 +66,10 @@ pub struct Film<'a> {
 /// # Ok::<(), Box<dyn std::error::Error>>(())
 /// ```
 pub fn outline(film: &[u8], reading: Reading) -> Result<Outline<'_>, Refusal> {
-    let sizes = match measure(film, reading)? {
-        Measured::Whole(outline) => return Ok(outline),
-        Measured::Sizes(sizes) => sizes,
-    };
-    // The header by itself is a film without chunks, whose answer is the same but for the sizes. Where a table of the
-    // header reaches into the chunks it is refused, and the streams are extracted to learn the rest.
-    let header = ffi::measure(header_of(film), reading.for_c());
-    match accepted(film, header) {
-        Ok(outline) => Ok(outline.with_sizes(sizes)),
-        Err(_) => extract_into(film, reading, None, &mut Vec::new(), &mut Vec::new()),
-    }
-}
-
-/// What a call without outputs tells: all, where both streams are empty, or both sizes.
-enum Measured<'a> {
-    Whole(Outline<'a>),
-    Sizes([usize; 2]),
-}
-
-fn measure(film: &[u8], reading: Reading) -> Result<Measured<'_>, Refusal> {
-    let reply = ffi::measure(film, reading.for_c());
-    match reply.number {
-        SHORT_OUTPUT => Ok(Measured::Sizes([reply.video_size, reply.audio_size])),
-        _ => accepted(film, reply).map(Measured::Whole),
-    }
+    let sizes = sizes(film, reading)?;
+    // All bytes always settle what a film is.
+    let outline = accepted(film, ffi::open(film, film.len(), reading.for_c()).film)?;
+    Ok(outline.with_sizes(sizes))
 }
 
 impl Outline<'_> {
@@ -115,7 +94,7 @@ impl Outline<'_> {
 /// assert_eq!(song.outline.video.kind.to_string(), "m2v");
 /// # Ok::<(), Box<dyn std::error::Error>>(())
 /// ```
-pub fn extract(film: &[u8], reading: Reading, key: Option<u64>) -> Result<Film<'_>, Refusal> {
+pub fn extract(film: &[u8], reading: Reading, key: Option<u64>) -> Result<Film<'_>, Error> {
     let (mut video, mut audio) = (Vec::new(), Vec::new());
     let outline = extract_into(film, reading, key, &mut video, &mut audio)?;
     let takes_audio = outline.audio.is_some() && reading.audio != Audio::None;
@@ -143,12 +122,12 @@ pub fn extract_into<'a>(
     key: Option<u64>,
     video: &mut Vec<u8>,
     audio: &mut Vec<u8>,
-) -> Result<Outline<'a>, Refusal> {
+) -> Result<Outline<'a>, Error> {
     let [video_size, audio_size] = sizes(film, reading)?;
-    make_room(video, video_size);
-    make_room(audio, audio_size);
+    make_room(video, video_size)?;
+    make_room(audio, audio_size)?;
     let key = Key { number: key.unwrap_or(0), given: key.is_some().into() };
-    accepted(film, ffi::extract(film, reading.for_c(), key, video, audio))
+    Ok(accepted(film, ffi::extract(film, reading.for_c(), key, video, audio))?)
 }
 
 /// The sizes of both streams, video first. It costs a walk over the film's chunks.
@@ -159,15 +138,11 @@ pub fn extract_into<'a>(
 /// # Ok::<(), Box<dyn std::error::Error>>(())
 /// ```
 pub fn sizes(film: &[u8], reading: Reading) -> Result<[usize; 2], Refusal> {
-    Ok(match measure(film, reading)? {
-        Measured::Whole(_) => [0, 0],
-        Measured::Sizes(sizes) => sizes,
-    })
-}
-
-/// Room for so many bytes in all. What is in the vector stays.
-fn make_room(vector: &mut Vec<u8>, size: usize) {
-    vector.reserve_exact(size.saturating_sub(vector.len()));
+    let reply = ffi::measure(film, reading.for_c());
+    if reply.number != SHORT_OUTPUT {
+        Refusal::check(reply.number, reply.refused_at, reply.unknown_type)?;
+    }
+    Ok([reply.video_size, reply.audio_size])
 }
 
 /// The number of outputs that are too short; the reply has their sizes then, and nothing else.
@@ -177,19 +152,31 @@ const SHORT_OUTPUT: u8 = 12;
 const NAME_IN_FILM: u8 = 0;
 
 fn accepted(film: &[u8], reply: FilmReply) -> Result<Outline<'_>, Refusal> {
-    Refusal::told(reply.number, reply.refused_at, reply.unknown_type)?;
+    Refusal::check(reply.number, reply.refused_at, reply.unknown_type)?;
     let name = (reply.name_source == NAME_IN_FILM).then(|| &film[reply.name_start..][..reply.name_length]);
     let video = Track {
         codec: (reply.has_video_codec != 0).then_some(reply.video_codec),
-        kind: if reply.video_kind == 0 { VideoKind::M2v } else { VideoKind::Ivf },
+        kind: VideoKind::of(reply.video_kind),
         size: reply.video_size,
     };
     let audio = Track {
         codec: (reply.has_audio_codec != 0).then_some(reply.audio_codec),
-        kind: if reply.audio_kind == 0 { AudioKind::Adx } else { AudioKind::Hca },
+        kind: AudioKind::of(reply.audio_kind),
         size: reply.audio_size,
     };
     Ok(Outline { name, video, audio: (reply.has_audio != 0).then_some(audio) })
+}
+
+impl VideoKind {
+    pub(crate) fn of(number: u8) -> VideoKind {
+        if number == 0 { VideoKind::M2v } else { VideoKind::Ivf }
+    }
+}
+
+impl AudioKind {
+    pub(crate) fn of(number: u8) -> AudioKind {
+        if number == 0 { AudioKind::Adx } else { AudioKind::Hca }
+    }
 }
 
 impl fmt::Display for VideoKind {

@@ -1,6 +1,6 @@
 //! An index of a film's video: where each byte of the stream stands in the film.
 
-use crate::{Refusal, ffi, sized};
+use crate::{Error, ffi, sized};
 
 /// Where the video payloads of a film stand, 24 bytes for each. It does not need the film any more.
 #[derive(Clone, Debug)]
@@ -40,7 +40,7 @@ pub struct Place {
 /// assert_eq!((second.place, second.chunk, second.length), (608, 1792, 256));
 /// # Ok::<(), Box<dyn std::error::Error>>(())
 /// ```
-pub fn index(film: &[u8]) -> Result<Index, Refusal> {
+pub fn index(film: &[u8]) -> Result<Index, Error> {
     sized::listed(|entries| ffi::index(film, entries)).map(|entries| Index { entries })
 }
 

@@ -19,6 +19,7 @@
 //! | to | call |
 //! |---|---|
 //! | extract both streams | [`extract`], [`extract_into`] |
+//! | read a film piece by piece, from a file or any reader | [`Reader`] |
 //! | learn what a film holds | [`outline`], [`sizes`] |
 //! | go through its chunks | [`list`], [`count`] |
 //! | jump to a byte of its video | [`index()`], [`Index::seek`] |
@@ -28,17 +29,19 @@
 //! | move films of the old builder to films that can be read, and back | [`from_old`], [`to_old`] |
 //! | save what arrived of a film that was cut | [`salvage()`] |
 //! | check a film against the delivery profile | [`profile()`] |
+//! | know which bits of a key a film shows | [`key_bits`] |
 //! | divide a film's bytes among tenants | [`statement()`] |
 //! | write a table as CSV | [`csv()`] |
 //!
 //! Every film, damaged or hostile, has an answer: a result or a [`Refusal`] with a number, a place and a reason. No
-//! input panics. Of memory both streams together take no more than the film's own length, and a list 24 bytes for each
+//! input panics, and where there is no memory there is an [`Error`]. Of memory both streams together take no more than the film's own length, and a list 24 bytes for each
 //! chunk, an index as many for each video payload; what is written takes as many bytes as a call tells before.
 //!
 //! The feature `cridecoder` has a module with the names and signatures of that crate.
 #![deny(unsafe_code)]
 
 mod chunks;
+mod error;
 mod ffi;
 mod film;
 mod header;
@@ -47,17 +50,20 @@ mod masks;
 mod moves;
 mod pack;
 mod profile;
+mod reader;
 mod reading;
 mod refusal;
 mod salvage;
 mod sized;
 mod statement;
 mod tables;
+mod window;
 
 #[cfg(feature = "cridecoder")]
 pub mod cridecoder;
 
 pub use chunks::{Chunk, ChunkKind, Chunks, Iter, count, list};
+pub use error::Error;
 pub use film::{AudioKind, Film, Outline, Track, VideoKind, extract, extract_into, outline, sizes};
 pub use header::{HeaderTable, header_tables};
 pub use index::{Entry, Index, Place, index};
@@ -65,10 +71,11 @@ pub use masks::{KeyTable, Stream, key_table, mask, unmask};
 pub use moves::{Codecs, from_old, from_old_into, from_old_size, to_old, to_old_into};
 pub use pack::{Streams, pack, pack_into, packed_size};
 pub use profile::{Offence, Rule, profile};
-pub use reading::{Audio, Payloads, Reading};
+pub use reader::{ChunkHead, ChunkHeads, Format, Header, Mask, Part, Reader, StreamReader};
+pub use reading::{Audio, Payloads, Reading, Tables};
 pub use refusal::{Reason, Refusal};
 pub use salvage::{Salvaged, salvage};
-pub use statement::{Share, Tenant, statement};
+pub use statement::{Share, Tenant, key_bits, statement};
 pub use tables::{Cell, Column, Row, Table, csv, csv_into, csv_size, table};
 
 /// The bytes of the longest film that is read: 1 GiB.

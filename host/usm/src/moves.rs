@@ -1,8 +1,8 @@
 //! Films of the old builder, moved to films that can be read, and back.
 
-use crate::Refusal;
 use crate::ffi::{self, SizeReply};
 use crate::sized::{fill, filled, size_of};
+use crate::{Error, Refusal};
 
 /// The codecs that a film's header gives. The old builder has none.
 #[derive(Clone, Copy, PartialEq, Eq, Hash, Debug, Default)]
@@ -37,16 +37,16 @@ impl Codecs {
 ///
 /// // There is one audio in a film.
 /// let dubbed = std::fs::read("tests/old-dubbed.usm")?;
-/// let refusal = usm::from_old(&dubbed, Codecs::default()).unwrap_err();
-/// assert_eq!(refusal.reason, usm::Reason::ManyAudios);
+/// let error = usm::from_old(&dubbed, Codecs::default()).unwrap_err();
+/// assert_eq!(error.refusal().unwrap().reason, usm::Reason::ManyAudios);
 /// # Ok::<(), Box<dyn std::error::Error>>(())
 /// ```
-pub fn from_old(film: &[u8], codecs: Codecs) -> Result<Vec<u8>, Refusal> {
+pub fn from_old(film: &[u8], codecs: Codecs) -> Result<Vec<u8>, Error> {
     filled(move_from(film, codecs))
 }
 
 /// The same into a vector, whose contents the new film replaces. Where it is refused the vector stays as it is.
-pub fn from_old_into(film: &[u8], codecs: Codecs, moved: &mut Vec<u8>) -> Result<(), Refusal> {
+pub fn from_old_into(film: &[u8], codecs: Codecs, moved: &mut Vec<u8>) -> Result<(), Error> {
     fill(moved, move_from(film, codecs))
 }
 
@@ -63,16 +63,16 @@ pub fn from_old_size(film: &[u8], codecs: Codecs) -> Result<usize, Refusal> {
 /// let old = usm::to_old(&packed)?;
 /// assert_eq!(usm::from_old(&old, usm::Codecs::default())?, packed);
 ///
-/// let refusal = usm::to_old(&std::fs::read("tests/song.usm")?).unwrap_err();
-/// assert_eq!(refusal.reason, usm::Reason::Foreign);
+/// let error = usm::to_old(&std::fs::read("tests/song.usm")?).unwrap_err();
+/// assert_eq!(error.refusal().unwrap().reason, usm::Reason::Foreign);
 /// # Ok::<(), Box<dyn std::error::Error>>(())
 /// ```
-pub fn to_old(film: &[u8]) -> Result<Vec<u8>, Refusal> {
+pub fn to_old(film: &[u8]) -> Result<Vec<u8>, Error> {
     filled(|moved| ffi::to_old(film, moved))
 }
 
 /// The same into a vector, whose contents the old film replaces. Where it is refused the vector stays as it is.
-pub fn to_old_into(film: &[u8], moved: &mut Vec<u8>) -> Result<(), Refusal> {
+pub fn to_old_into(film: &[u8], moved: &mut Vec<u8>) -> Result<(), Error> {
     fill(moved, |moved| ffi::to_old(film, moved))
 }
 

@@ -1,8 +1,8 @@
 //! Streams packed into a film.
 
-use crate::Refusal;
 use crate::ffi::{self, Key, SizeReply};
 use crate::sized::{fill, filled, size_of};
+use crate::{Error, Refusal};
 
 /// The streams of a film to be written, and what its header says of them.
 #[derive(Clone, Copy, PartialEq, Eq, Debug, Default)]
@@ -62,16 +62,16 @@ impl<'a> Streams<'a> {
 /// assert_eq!(usm::extract(&packed, Reading::default(), key)?.video, song.video);
 ///
 /// // A payload that begins with the mark of an end would be lost.
-/// let refusal = usm::pack(Streams::new(b"", b"#CONTENTS END"), None).unwrap_err();
-/// assert_eq!(refusal.reason, usm::Reason::MarkedPayload);
+/// let error = usm::pack(Streams::new(b"", b"#CONTENTS END"), None).unwrap_err();
+/// assert_eq!(error.refusal().unwrap().reason, usm::Reason::MarkedPayload);
 /// # Ok::<(), Box<dyn std::error::Error>>(())
 /// ```
-pub fn pack(streams: Streams, key: Option<u64>) -> Result<Vec<u8>, Refusal> {
+pub fn pack(streams: Streams, key: Option<u64>) -> Result<Vec<u8>, Error> {
     filled(|film| streams.write(key, film))
 }
 
 /// The same into a vector, whose contents the film replaces. Where it is refused the vector stays as it is.
-pub fn pack_into(streams: Streams, key: Option<u64>, film: &mut Vec<u8>) -> Result<(), Refusal> {
+pub fn pack_into(streams: Streams, key: Option<u64>, film: &mut Vec<u8>) -> Result<(), Error> {
     fill(film, |film| streams.write(key, film))
 }
 

@@ -40,7 +40,7 @@ pub enum Rule {
 /// ```
 pub fn profile(film: &[u8]) -> Result<Option<Offence>, Refusal> {
     let reply = ffi::profile(film);
-    Refusal::told(reply.number, reply.refused_at, reply.unknown_type)?;
+    Refusal::check(reply.number, reply.refused_at, reply.unknown_type)?;
     let rule = match reply.rule {
         0 => return Ok(None),
         1 => Rule::HeaderSize,

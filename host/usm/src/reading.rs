@@ -2,7 +2,7 @@
 
 use crate::ffi;
 
-/// How a film is read. The default takes all audio, and payloads from where the original takes them.
+/// How a film is read. The default takes all audio, and reads payloads and tables as the original does.
 ///
 /// ```
 /// use usm::{Audio, Reading};
@@ -16,6 +16,7 @@ use crate::ffi;
 pub struct Reading {
     pub audio: Audio,
     pub payloads: Payloads,
+    pub tables: Tables,
 }
 
 /// Which audio is taken. What is not taken is skipped unchecked, so a film may be accepted without audio and refused
@@ -42,6 +43,24 @@ pub enum Payloads {
     AfterHeader,
 }
 
+/// How tables are read.
+#[derive(Clone, Copy, PartialEq, Eq, Hash, Debug, Default)]
+#[non_exhaustive]
+pub enum Tables {
+    /// As the original reads them: a column of storage 1 has a value in each row.
+    #[default]
+    Original,
+    /// A column of storage 1 stores nothing: its numbers and floats are 0, its strings and data empty. Storages other
+    /// than 1, 3, 5 and 7 are refused by 18.
+    ZeroColumns,
+}
+
+impl Tables {
+    pub(crate) fn for_c(self) -> u8 {
+        (self == Tables::ZeroColumns).into()
+    }
+}
+
 impl Reading {
     /// The same, with another choice of audio.
     pub fn with_audio(self, audio: Audio) -> Reading {
@@ -53,12 +72,22 @@ impl Reading {
         Reading { payloads, ..self }
     }
 
+    /// The same, with tables read in another way.
+    pub fn with_tables(self, tables: Tables) -> Reading {
+        Reading { tables, ..self }
+    }
+
     pub(crate) fn for_c(self) -> ffi::Reading {
         let (audio, channel) = match self.audio {
             Audio::None => (0, 0),
             Audio::All => (1, 0),
             Audio::Channel(channel) => (2, channel),
         };
-        ffi::Reading { audio, channel, payloads: (self.payloads == Payloads::AfterHeader).into(), tables: 0 }
+        ffi::Reading {
+            audio,
+            channel,
+            payloads: (self.payloads == Payloads::AfterHeader).into(),
+            tables: self.tables.for_c(),
+        }
     }
 }

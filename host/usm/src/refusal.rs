@@ -55,6 +55,8 @@ pub enum Reason {
     MarkedPayload,
     /// 17: a header size below 0x18, with [`Payloads::AfterHeader`](crate::Payloads::AfterHeader).
     ShortHeader,
+    /// 18: a column's storage is none of 1, 3, 5 and 7, with [`Tables::ZeroColumns`](crate::Tables::ZeroColumns).
+    UnknownStorage,
     /// 19: not what the old builder writes, or, on the way back, no film that was moved from it.
     Foreign,
     /// 20: a film of the old builder with more than one audio.
@@ -71,7 +73,7 @@ pub enum Reason {
 
 impl Refusal {
     /// The refusal of a reply, where its number is one.
-    pub(crate) fn told(number: u8, place: usize, unknown_type: u8) -> Result<(), Refusal> {
+    pub(crate) fn check(number: u8, place: usize, unknown_type: u8) -> Result<(), Refusal> {
         match number {
             0 => Ok(()),
             number => Err(Refusal { number, place, reason: Reason::of(number, unknown_type) }),
@@ -82,7 +84,7 @@ impl Refusal {
     /// longer than [`LONGEST_FILM`](crate::LONGEST_FILM).
     pub fn by_length(length: u64) -> Result<(), Refusal> {
         let number = if length > crate::LONGEST_FILM as u64 { 11 } else { 0 };
-        Refusal::told(number, 0, 0)
+        Refusal::check(number, 0, 0)
     }
 }
 
@@ -102,6 +104,7 @@ impl Reason {
             11 => Reason::TooLong,
             15 => Reason::MarkedPayload,
             17 => Reason::ShortHeader,
+            18 => Reason::UnknownStorage,
             19 => Reason::Foreign,
             20 => Reason::ManyAudios,
             21 => Reason::NoBeginning,
@@ -129,6 +132,7 @@ impl Reason {
             Reason::TooLong => 11,
             Reason::MarkedPayload => 15,
             Reason::ShortHeader => 17,
+            Reason::UnknownStorage => 18,
             Reason::Foreign => 19,
             Reason::ManyAudios => 20,
             Reason::NoBeginning => 21,
@@ -153,12 +157,13 @@ impl fmt::Display for Reason {
             Reason::TooSmall => f.write_str("a table or block size that is too small"),
             Reason::TooMany => f.write_str("over 64 columns or 256 rows in a table"),
             Reason::TooLong => f.write_str("longer than 1,073,741,824 bytes"),
-            Reason::MarkedPayload => f.write_str("a payload that begins with #CONTENTS END"),
+            Reason::MarkedPayload => f.write_str("a payload begins with the end marker"),
             Reason::ShortHeader => f.write_str("a header that is too short"),
+            Reason::UnknownStorage => f.write_str("unknown storage of a column"),
             Reason::Foreign => f.write_str("neither a film of the old builder nor one moved from it"),
             Reason::ManyAudios => f.write_str("more than one audio"),
-            Reason::NoBeginning => f.write_str("no beginning of it is accepted"),
-            Reason::BadTenants => f.write_str("no tenant, over 16 of them, or a number twice"),
+            Reason::NoBeginning => f.write_str("no beginning is accepted"),
+            Reason::BadTenants => f.write_str("no tenant, over 16 tenants, or a tenant number twice"),
             Reason::CodecAlone => f.write_str("an audio codec without audio"),
             Reason::Other(number) => write!(f, "reason {number}"),
         }

@@ -28,7 +28,7 @@ pub struct Salvaged<'a> {
 /// ```
 pub fn salvage(film: &[u8]) -> Result<Salvaged<'_>, Refusal> {
     let reply = ffi::salvage(film);
-    Refusal::told(reply.number, reply.refused_at, reply.unknown_type)?;
+    Refusal::check(reply.number, reply.refused_at, reply.unknown_type)?;
     let cause = (reply.cause != 0).then(|| Reason::of(reply.cause, 0));
     Ok(Salvaged { film: &film[..reply.kept], dropped: reply.dropped, cause })
 }

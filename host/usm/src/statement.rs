@@ -1,6 +1,6 @@
 //! What tenants owe for the copies of a film.
 
-use crate::{Refusal, ffi};
+use crate::{Reading, Refusal, ffi};
 
 /// A tenant and the key under which it has a film.
 #[derive(Clone, Copy, PartialEq, Eq, Hash, Debug)]
@@ -17,6 +17,22 @@ pub struct Share {
     /// The lowest tenant of its group. Tenants are in one group exactly where their streams are the same.
     pub group: u64,
     pub bytes: u64,
+}
+
+/// The bits of keys that a film shows: its streams under two keys are equal exactly where the keys agree in these bits
+/// (proved). It costs a walk over the film's chunks, and nothing is unpacked.
+///
+/// ```
+/// let film = std::fs::read("tests/song.usm")?;
+/// let bits = usm::key_bits(&film, usm::Reading::default())?;
+/// assert_eq!(0x0123456789ABCDEF & bits, 0xFF23456789ABCDEF & bits, "the same streams");
+/// assert_ne!(0x0123456789ABCDEF & bits, 0, "other streams than under the key 0");
+/// # Ok::<(), Box<dyn std::error::Error>>(())
+/// ```
+pub fn key_bits(film: &[u8], reading: Reading) -> Result<u64, Refusal> {
+    let reply = ffi::key_bits(film, reading.for_c());
+    Refusal::check(reply.number, reply.refused_at, reply.unknown_type)?;
+    Ok(reply.bits)
 }
 
 /// The shares of up to 16 tenants in a film's copies, by rising tenant, whatever the order of the tenants. Shares of a
@@ -37,6 +53,6 @@ pub fn statement(film: &[u8], tenants: &[Tenant]) -> Result<Vec<Share>, Refusal>
         tenants.iter().map(|tenant| ffi::Tenant { number: tenant.number, key: tenant.key }).collect();
     let mut lines = Vec::with_capacity(tenants.len());
     let reply = ffi::statement(film, &tenants, &mut lines);
-    Refusal::told(reply.number, reply.refused_at, reply.unknown_type)?;
+    Refusal::check(reply.number, reply.refused_at, reply.unknown_type)?;
     Ok(lines.iter().map(|line| Share { tenant: line.tenant, group: line.group, bytes: line.share }).collect())
 }

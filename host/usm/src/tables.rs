@@ -2,7 +2,7 @@
 //! through all columns and rows of an accepted table is done here, over bytes that are known to be there.
 
 use crate::sized::{fill, filled, size_of};
-use crate::{Refusal, ffi};
+use crate::{Error, Refusal, Tables, ffi};
 
 /// The bytes of a table's header.
 const HEADER: usize = 32;
@@ -19,6 +19,7 @@ pub struct Table<'a> {
     bytes: &'a [u8],
     place: usize,
     row_count: usize,
+    tables: Tables,
     layout: Layout<'a>,
     columns: Vec<Column<'a>>,
 }
@@ -31,7 +32,7 @@ pub struct Column<'a> {
     pub name: &'a [u8],
     /// How values are stored (high half) and what they are (low half).
     pub type_byte: u8,
-    /// The value of every row, where the column has one for all.
+    /// The value of every row, where the column has one for all: stored in the column, or 0 or empty in a zero column.
     pub constant: Option<Cell<'a>>,
     /// Where a stored value stands in a row.
     at: usize,
@@ -55,10 +56,10 @@ pub enum Cell<'a> {
 /// Reads and checks the table at a place of some bytes, such as a film.
 ///
 /// ```
-/// use usm::Cell;
+/// use usm::{Cell, Tables};
 ///
 /// let film = std::fs::read("tests/song.usm")?;
-/// let table = usm::table(&film, 32)?;
+/// let table = usm::table(&film, 32, Tables::Original)?;
 /// assert_eq!(table.cell(b"filename", 0), Some(Cell::String(b"songs/lark.usm")));
 /// for row in table.rows() {
 ///     for (column, cell) in table.columns().iter().zip(row.cells()) {
@@ -67,11 +68,11 @@ pub enum Cell<'a> {
 /// }
 /// # Ok::<(), Box<dyn std::error::Error>>(())
 /// ```
-pub fn table(bytes: &[u8], place: usize) -> Result<Table<'_>, Refusal> {
-    let reply = ffi::table(bytes, place);
-    Refusal::told(reply.number, reply.refused_at, reply.unknown_type)?;
+pub fn table(bytes: &[u8], place: usize, tables: Tables) -> Result<Table<'_>, Refusal> {
+    let reply = ffi::table(bytes, place, tables.for_c());
+    Refusal::check(reply.number, reply.refused_at, reply.unknown_type)?;
     let layout = Layout::of(&bytes[place..]);
-    Ok(Table { bytes, place, row_count: reply.rows, columns: layout.columns(reply.columns), layout })
+    Ok(Table { bytes, place, row_count: reply.rows, tables, columns: layout.columns(reply.columns, tables), layout })
 }
 
 /// The table at a place of some bytes as CSV, by RFC 4180: names, then rows. Numbers are decimal, data and the bits of
@@ -79,21 +80,21 @@ pub fn table(bytes: &[u8], place: usize) -> Result<Table<'_>, Refusal> {
 ///
 /// ```
 /// let film = std::fs::read("tests/song.usm")?;
-/// assert_eq!(usm::csv(&film, 32)?, b"filename\r\nsongs/lark.usm\r\n");
+/// assert_eq!(usm::csv(&film, 32, usm::Tables::Original)?, b"filename\r\nsongs/lark.usm\r\n");
 /// # Ok::<(), Box<dyn std::error::Error>>(())
 /// ```
-pub fn csv(bytes: &[u8], place: usize) -> Result<Vec<u8>, Refusal> {
-    filled(|text| ffi::csv(bytes, place, text))
+pub fn csv(bytes: &[u8], place: usize, tables: Tables) -> Result<Vec<u8>, Error> {
+    filled(|text| ffi::csv(bytes, place, tables.for_c(), text))
 }
 
 /// The same into a vector, whose contents the text replaces. Where the table is refused the vector stays as it is.
-pub fn csv_into(bytes: &[u8], place: usize, text: &mut Vec<u8>) -> Result<(), Refusal> {
-    fill(text, |text| ffi::csv(bytes, place, text))
+pub fn csv_into(bytes: &[u8], place: usize, tables: Tables, text: &mut Vec<u8>) -> Result<(), Error> {
+    fill(text, |text| ffi::csv(bytes, place, tables.for_c(), text))
 }
 
 /// The bytes of the text that [`csv`] gives. Cells may share a string, so that it can be far longer than the table.
-pub fn csv_size(bytes: &[u8], place: usize) -> Result<usize, Refusal> {
-    size_of(|text| ffi::csv(bytes, place, text))
+pub fn csv_size(bytes: &[u8], place: usize, tables: Tables) -> Result<usize, Refusal> {
+    size_of(|text| ffi::csv(bytes, place, tables.for_c(), text))
 }
 
 impl<'a> Table<'a> {
@@ -109,7 +110,7 @@ impl<'a> Table<'a> {
 
     /// The cell of the last column of a name in a row, counted from 0.
     pub fn cell(&self, name: &[u8], row: usize) -> Option<Cell<'a>> {
-        let reply = ffi::cell(self.bytes, self.place, name, row);
+        let reply = ffi::cell(self.bytes, self.place, name, row, self.tables.for_c());
         let part = || &self.bytes[reply.value as usize..][..reply.length];
         match reply.kind {
             1 => Some(Cell::Unsigned(reply.value)),
@@ -158,9 +159,35 @@ fn width(type_byte: u8) -> usize {
     WIDTHS[usize::from(type_byte & 0xF)]
 }
 
-/// Storages 3 and 7: the value follows in the column. With every other storage it stands in the rows.
-fn is_constant(type_byte: u8) -> bool {
-    matches!(type_byte >> 4, 3 | 7)
+/// Where the value of a column stands.
+enum Storage {
+    /// It follows in the column, and holds for all rows.
+    Column,
+    /// Each row has one.
+    Rows,
+    /// Nowhere: it is 0 or empty.
+    Nowhere,
+}
+
+impl Storage {
+    fn of(type_byte: u8, tables: Tables) -> Storage {
+        match (type_byte >> 4, tables) {
+            (3 | 7, _) => Storage::Column,
+            (1, Tables::ZeroColumns) => Storage::Nowhere,
+            _ => Storage::Rows,
+        }
+    }
+}
+
+/// The value of a type that stores nothing.
+fn zero(type_byte: u8) -> Cell<'static> {
+    match type_byte & 0xF {
+        1 | 3 | 5 => Cell::Signed(0),
+        8 => Cell::Float(0.0),
+        0xA => Cell::String(&[]),
+        0xB => Cell::Data(&[]),
+        _ => Cell::Unsigned(0),
+    }
 }
 
 /// Where the parts of an accepted table stand. Places count as the header's offsets do.
@@ -183,16 +210,21 @@ impl<'a> Layout<'a> {
         }
     }
 
-    fn columns(&self, count: usize) -> Vec<Column<'a>> {
+    fn columns(&self, count: usize, tables: Tables) -> Vec<Column<'a>> {
         let (mut place, mut at) = (BODY, 0);
         let mut column = || {
             let type_byte = self.number(place, 1) as u8;
             let name = self.string(self.number(place + 1, 4));
             place += 5;
-            let constant = is_constant(type_byte).then(|| self.cell(type_byte, place));
-            if constant.is_some() {
-                place += width(type_byte);
-            }
+            let constant = match Storage::of(type_byte, tables) {
+                Storage::Column => {
+                    let value = self.cell(type_byte, place);
+                    place += width(type_byte);
+                    Some(value)
+                }
+                Storage::Rows => None,
+                Storage::Nowhere => Some(zero(type_byte)),
+            };
             let column = Column { name, type_byte, constant, at };
             at += column.stored_width();
             column

@@ -13,6 +13,11 @@ fn without_audio() -> Reading {
     Reading::default().with_audio(Audio::None)
 }
 
+/// The refusal of a call, which fails for nothing else.
+fn refused<T>(result: Result<T, usm::Error>) -> Option<Refusal> {
+    result.err().map(|error| error.refusal().expect("a refusal"))
+}
+
 #[test]
 fn the_maker_makes_f() {
     assert_eq!(films::f(), file("f.usm"));
@@ -219,12 +224,13 @@ fn every_cut_has_one_answer_from_every_function() {
     for length in 0..=song.len() {
         let film = &song[..length];
         for reading in [Reading::default(), without_audio()] {
-            let refusal = usm::extract(film, reading, Some(1)).err();
+            let refusal = refused(usm::extract(film, reading, Some(1)));
             assert_eq!(usm::outline(film, reading).err(), refusal);
-            assert_eq!(usm::list(film, reading).err(), refusal);
+            assert_eq!(refused(usm::list(film, reading)), refusal);
             assert_eq!(usm::sizes(film, reading).err(), refusal);
+            assert_eq!(usm::key_bits(film, reading).err(), refusal);
         }
-        assert_eq!(usm::index(film).err(), usm::sizes(film, without_audio()).err());
+        assert_eq!(refused(usm::index(film)), usm::sizes(film, without_audio()).err());
     }
 }
 

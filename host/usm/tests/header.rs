@@ -1,6 +1,6 @@
 //! include/usm.h says the same as this crate: the reasons in words, the version, the limit.
 
-use usm::{Reading, Refusal};
+use usm::{Reading, Reason, Refusal, Tables};
 
 const HEADER: &str = include_str!(concat!(env!("CARGO_MANIFEST_DIR"), "/../../include/usm.h"));
 
@@ -55,7 +55,27 @@ fn reasons_are_the_same_words() {
     assert_eq!(words(8), Some("unknown column type"));
     let mut table = films::table(&[b"a"], &[&[films::Value::Byte(1)]]);
     table[32] = 0x57;
-    assert_eq!(usm::table(&table, 0).unwrap_err().reason.to_string(), "unknown column type 7");
+    let unknown = usm::table(&table, 0, Tables::Original).unwrap_err();
+    assert_eq!(unknown.reason.to_string(), "unknown column type 7");
+}
+
+/// The reasons that are not about reading a film.
+#[test]
+fn the_other_reasons_are_the_same_words_too() {
+    let others = [
+        Reason::MarkedPayload,
+        Reason::ShortHeader,
+        Reason::UnknownStorage,
+        Reason::Foreign,
+        Reason::ManyAudios,
+        Reason::NoBeginning,
+        Reason::BadTenants,
+        Reason::CodecAlone,
+    ];
+    assert_eq!(others.map(Reason::number), [15, 17, 18, 19, 20, 21, 22, 23]);
+    for reason in others {
+        assert_eq!(words(reason.number()), Some(reason.to_string().as_str()));
+    }
 }
 
 #[test]

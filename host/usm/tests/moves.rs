@@ -9,6 +9,11 @@ fn file(name: &str) -> Vec<u8> {
     std::fs::read(format!("{}/tests/{name}", env!("CARGO_MANIFEST_DIR"))).unwrap()
 }
 
+/// The refusal of a call, which fails for nothing else.
+fn why<T: std::fmt::Debug>(result: Result<T, usm::Error>) -> Refusal {
+    result.unwrap_err().refusal().expect("a refusal")
+}
+
 fn refused(number: u8, reason: Reason) -> Refusal {
     Refusal { number, place: 0, reason }
 }
@@ -58,35 +63,35 @@ fn films_of_others_are_not_moved() {
     let old = file("old.usm");
     let film = usm::from_old(&old, CODECS).unwrap();
     for other in [file("song.usm"), file("f.usm"), film.clone(), Vec::new()] {
-        assert_eq!(usm::from_old(&other, CODECS), Err(foreign));
+        assert_eq!(why(usm::from_old(&other, CODECS)), foreign);
     }
     for other in [file("song.usm"), file("f.usm"), old.clone(), Vec::new()] {
-        assert_eq!(usm::to_old(&other), Err(foreign));
+        assert_eq!(why(usm::to_old(&other)), foreign);
     }
     for length in 0..old.len() {
-        assert_eq!(usm::from_old(&old[..length], CODECS), Err(foreign), "{length}");
+        assert_eq!(why(usm::from_old(&old[..length], CODECS)), foreign, "{length}");
     }
     for length in 0..film.len() {
-        assert_eq!(usm::to_old(&film[..length]), Err(foreign), "{length}");
+        assert_eq!(why(usm::to_old(&film[..length])), foreign, "{length}");
     }
     let shift_jis = usm::pack(Streams::new(b"\x83\x81", b"picture"), None).unwrap();
-    assert_eq!(usm::to_old(&shift_jis), Err(foreign));
+    assert_eq!(why(usm::to_old(&shift_jis)), foreign);
 }
 
 #[test]
 fn other_refusals() {
     let dubbed = file("old-dubbed.usm");
-    assert_eq!(usm::from_old(&dubbed, CODECS), Err(refused(20, Reason::ManyAudios)));
+    assert_eq!(why(usm::from_old(&dubbed, CODECS)), refused(20, Reason::ManyAudios));
     let silent = usm::to_old(&usm::pack(Streams::new(b"", b"-CONTENTS END"), None).unwrap()).unwrap();
-    assert_eq!(usm::from_old(&silent, CODECS), Err(refused(23, Reason::CodecAlone)));
+    assert_eq!(why(usm::from_old(&silent, CODECS)), refused(23, Reason::CodecAlone));
     let mut marked = silent.clone();
     let payload = silent.windows(13).position(|bytes| bytes == b"-CONTENTS END").unwrap();
     marked[payload] = b'#';
-    assert_eq!(usm::from_old(&marked, Codecs::default()), Err(refused(15, Reason::MarkedPayload)));
+    assert_eq!(why(usm::from_old(&marked, Codecs::default())), refused(15, Reason::MarkedPayload));
     let long = vec![0; usm::LONGEST_FILM + 1];
-    assert_eq!(usm::from_old(&long, CODECS), Err(refused(11, Reason::TooLong)));
-    assert_eq!(usm::to_old(&long), Err(refused(11, Reason::TooLong)));
-    assert_eq!(usm::from_old(&long[1..], CODECS), Err(refused(19, Reason::Foreign)));
+    assert_eq!(why(usm::from_old(&long, CODECS)), refused(11, Reason::TooLong));
+    assert_eq!(why(usm::to_old(&long)), refused(11, Reason::TooLong));
+    assert_eq!(why(usm::from_old(&long[1..], CODECS)), refused(19, Reason::Foreign));
 }
 
 #[test]

@@ -1,7 +1,7 @@
 //! Tables through the library: all their cells, and each by its name.
 
 use films::Value;
-use usm::{Cell, Reading, Reason, Refusal};
+use usm::{Cell, Reading, Reason, Refusal, Tables};
 
 const NAMES: [&[u8]; 11] =
     [b"byte", b"sbyte", b"short", b"sshort", b"number", b"snumber", b"long", b"float", b"text", b"data", b"text"];
@@ -41,7 +41,7 @@ fn plain(cell: Cell) -> String {
 #[test]
 fn all_cells_are_read() {
     let bytes = bytes();
-    let table = usm::table(&bytes, 6).unwrap();
+    let table = usm::table(&bytes, 6, Tables::Original).unwrap();
     let names: Vec<&[u8]> = table.columns().iter().map(|column| column.name).collect();
     assert_eq!(names, NAMES);
     assert_eq!(table.row_count(), 2);
@@ -64,7 +64,11 @@ fn all_cells_are_read() {
 
 /// Every cell that is gone through is the one that the proved look-up gives, but for columns that a later one hides.
 fn agrees(bytes: &[u8], place: usize) -> usize {
-    let Ok(table) = usm::table(bytes, place) else { return 0 };
+    [Tables::Original, Tables::ZeroColumns].map(|tables| agrees_in(bytes, place, tables))[0]
+}
+
+fn agrees_in(bytes: &[u8], place: usize, tables: Tables) -> usize {
+    let Ok(table) = usm::table(bytes, place, tables) else { return 0 };
     let is_last = |number: usize| {
         let name = table.columns()[number].name;
         table.columns()[number + 1..].iter().all(|later| later.name != name)
@@ -101,7 +105,7 @@ fn damaged_tables_agree_with_the_look_up() {
 #[test]
 fn constants_and_odd_rows_agree_with_the_look_up() {
     let song = std::fs::read(concat!(env!("CARGO_MANIFEST_DIR"), "/tests/song.usm")).unwrap();
-    let tables = usm::header_tables(&song).unwrap();
+    let tables = usm::header_tables(&song, Reading::default()).unwrap();
     let letters: Vec<&[u8; 4]> = tables.iter().map(|table| &table.letters).collect();
     assert_eq!(letters, [b"CRID", b"@SFV", b"@SFA", b"@SFV", b"@SFA"]);
     let mut accepted = 0;
@@ -122,15 +126,42 @@ fn constants_and_odd_rows_agree_with_the_look_up() {
 fn a_table_alone_is_refused_at_its_own_place() {
     let bytes = bytes();
     let refusal = Refusal { number: 3, place: 5, reason: Reason::NoTable };
-    assert_eq!(usm::table(&bytes, 5).unwrap_err(), refusal);
+    assert_eq!(usm::table(&bytes, 5, Tables::Original).unwrap_err(), refusal);
     let refusal = Refusal { number: 1, place: usize::MAX, reason: Reason::RanOut };
-    assert_eq!(usm::table(&bytes, usize::MAX).unwrap_err(), refusal);
+    assert_eq!(usm::table(&bytes, usize::MAX, Tables::Original).unwrap_err(), refusal);
 }
 
 #[test]
 fn header_tables_are_those_of_an_accepted_film() {
     let f = films::f();
-    let places: Vec<usize> = usm::header_tables(&f).unwrap().iter().map(|table| table.place).collect();
+    let places: Vec<usize> =
+        usm::header_tables(&f, Reading::default()).unwrap().iter().map(|table| table.place).collect();
     assert_eq!(places, [32, 96, 224]);
-    assert_eq!(usm::header_tables(&f[..428]).unwrap_err(), usm::outline(&f[..428], Reading::default()).unwrap_err());
+    let cut = &f[..428];
+    let refusal = usm::outline(cut, Reading::default()).unwrap_err();
+    assert_eq!(usm::header_tables(cut, Reading::default()).unwrap_err(), refusal);
+}
+
+/// A column of storage 1 takes no room in a row: those after it stand where they would without it.
+#[test]
+fn zero_columns_store_nothing() {
+    let types = [0x10_u8, 0x15, 0x18, 0x1A, 0x1B];
+    let names: [&[u8]; 6] = [b"a", b"b", b"c", b"d", b"e", b"f"];
+    let number = [Value::Byte(0), Value::Byte(0), Value::Byte(0), Value::Byte(0), Value::Byte(0), Value::Number(7)];
+    let mut bytes = films::table(&names, &[&number]);
+    for (column, storage) in types.iter().enumerate() {
+        bytes[32 + 5 * column] = *storage;
+    }
+    // The number is the first in the row, where the first byte stood.
+    let rows = 8 + 24 + 5 * names.len();
+    bytes.copy_within(rows + 5..rows + 9, rows);
+    let table = usm::table(&bytes, 0, Tables::ZeroColumns).unwrap();
+    let cells: Vec<String> = table.rows().next().unwrap().cells().map(plain).collect();
+    let zeros = ["Unsigned(0)", "Signed(0)", "Float(00000000)", "String([])", "Data([])", "Unsigned(7)"];
+    assert_eq!(cells, zeros);
+    assert_eq!(agrees_in(&bytes, 0, Tables::ZeroColumns), 1);
+    assert_eq!(usm::csv(&bytes, 0, Tables::ZeroColumns).unwrap(), b"a,b,c,d,e,f\r\n0,0,00000000,,,7\r\n");
+    bytes[32] = 0x20;
+    let refusal = Refusal { number: 18, place: 0, reason: Reason::UnknownStorage };
+    assert_eq!(usm::table(&bytes, 0, Tables::ZeroColumns).unwrap_err(), refusal);
 }

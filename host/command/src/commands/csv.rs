@@ -1,20 +1,22 @@
 //! `usm csv`: the tables of films as files for spreadsheets.
 
-use std::path::PathBuf;
+use std::path::{Path, PathBuf};
 
 use clap::Args;
 use serde::Serialize;
+use usm::Tables;
 
-use crate::commands::table::place;
 use crate::files::names::stem;
-use crate::files::staged::StagedFiles;
-use crate::files::targets::{OutputOptions, Targets};
+use crate::files::targets::{Claim, OutputOptions, Targets};
+use crate::options::limit::{Limit, LimitOption, place};
+use crate::options::reading::TableOptions;
+use crate::output::csv::{SpreadsheetOption, for_spreadsheets};
 use crate::output::json::{About, AsHex, AsText, as_string};
 use crate::output::text::Shown;
-use crate::output::{Error, Status};
-use crate::output::{Output, print_to, report_error};
-use crate::run::sources::{Films, make_room};
-use crate::run::workers::{self, Film, Task, Turn};
+use crate::output::{Error, Output, Status, print_to, report_error};
+use crate::run::input::make_room;
+use crate::run::sources::Films;
+use crate::run::workers::{self, Film, Task, Turn, WholeFilm};
 
 /// Write the tables of films' headers as CSV files
 ///
@@ -22,7 +24,8 @@ use crate::run::workers::{self, Film, Task, Turn};
 /// strings as they are. A file has the film's name, its block's letters and its place: song.crid-32.csv. It lies beside
 /// the film, or in DIR. All files of a film appear, or none does.
 ///
-/// A spreadsheet may run a field that begins with =, +, - or @ as a formula: import all columns as text.
+/// A spreadsheet may run a field that begins with =, +, - or @ as a formula: import all columns as text, or give
+/// --spreadsheet.
 #[derive(Args)]
 pub struct Csv {
     #[command(flatten)]
@@ -31,53 +34,106 @@ pub struct Csv {
     #[arg(long, value_name = "PLACE", value_parser = place)]
     at: Option<usize>,
     #[command(flatten)]
-    placing: OutputOptions,
+    tables: TableOptions,
+    #[command(flatten)]
+    limit: LimitOption,
+    #[command(flatten)]
+    spreadsheet: SpreadsheetOption,
+    #[command(flatten)]
+    output: OutputOptions,
 }
 
 impl Csv {
     pub fn run(self) -> Status {
-        match Targets::new(&self.placing, &self.films) {
-            Ok(files) => workers::run(&Run { options: &self, files }, &self.films),
+        let sources = match self.films.sources() {
+            Ok(sources) => sources,
+            Err(error) => return report_error(error),
+        };
+        match Targets::new(&self.output, &sources) {
+            Ok(targets) => workers::run(&Run { options: &self, targets }, &sources, &self.films.options),
             Err(error) => report_error(error),
         }
     }
 }
 
-struct Run<'t> {
-    options: &'t Csv,
-    files: Targets,
+struct Run<'o> {
+    options: &'o Csv,
+    targets: Targets,
 }
 
 impl Task for Run<'_> {
     const STEPS: u64 = 2;
 
     fn film<'a>(&'a self, film: Film<'a, '_>, turn: &Turn<'a, '_>) -> Result<(), Error> {
-        let Film { label, bytes, video: text, meter, .. } = film;
-        let tables = match self.options.at {
-            Some(place) => vec![(format!("{place}"), place)],
-            None => usm::header_tables(bytes)?.iter().map(|table| (name(table), table.place)).collect(),
-        };
-        let (mut targets, mut sizes, mut pair) = (Vec::new(), Vec::new(), StagedFiles::default());
-        for (name, place) in tables {
-            text_of(bytes, place, text)?;
-            if text.is_empty() {
-                continue;
-            }
-            let target = self.files.target(label, &format!("{}.{name}.csv", stem(label)));
-            self.files.check(std::slice::from_ref(&target))?;
-            pair.write(target.clone(), text, meter)?;
-            targets.push(target);
-            sizes.push(text.len());
+        let label = film.label;
+        let WholeFilm { bytes, made: text } = film.read()?;
+        let tables = self.tables(bytes)?;
+        let files: Vec<PathBuf> =
+            tables.iter().map(|(name, _)| self.targets.target(label, &format!("{}.{name}.csv", stem(label)))).collect();
+        if turn.decide(|| self.targets.claim(label, &files))? == Claim::Skip {
+            turn.finish_in_turn(move |output| self.print(label, &Vec::new(), true, output));
+            return Ok(());
         }
-        let (json, quiet) = (self.options.films.json, self.options.placing.quiet);
-        turn.finish_in_turn(move |output| {
-            self.files.place(label, &pair, &targets)?;
-            if json {
-                let files = targets.iter().zip(sizes).map(|(path, bytes)| Written::of(path, bytes)).collect();
-                return output.object(&Object { about: About::new(label), files });
+        let mut limit = self.options.limit.limit();
+        let (mut written, mut staged) = (Vec::new(), self.targets.staged());
+        for (file, (_, place)) in files.into_iter().zip(tables) {
+            text_of(bytes, place, self.options.tables.tables(), &mut limit, text)?;
+            if self.options.spreadsheet.spreadsheet {
+                *text = for_spreadsheets(text)?;
             }
-            if quiet { Ok(()) } else { print_files(&targets, &sizes, label, output) }
-        });
+            staged.write(file.clone(), text)?;
+            written.push((file, text.len()));
+        }
+        self.targets.place(label, staged)?;
+        turn.finish_in_turn(move |output| self.print(label, &written, false, output));
+        Ok(())
+    }
+}
+
+impl Run<'_> {
+    /// The tables that have columns, each by a name and its place.
+    fn tables(&self, bytes: &[u8]) -> Result<Vec<(String, usize)>, Error> {
+        let tables = self.options.tables.tables();
+        let all = match self.options.at {
+            Some(place) => vec![(format!("{place}"), place)],
+            None => {
+                let reading = usm::Reading::default().with_tables(tables);
+                usm::header_tables(bytes, reading)?.iter().map(|table| (name(table), table.place)).collect()
+            }
+        };
+        let mut with_columns = Vec::new();
+        for (name, place) in all {
+            if usm::csv_size(bytes, place, tables)? > 0 {
+                with_columns.push((name, place));
+            }
+        }
+        Ok(with_columns)
+    }
+
+    fn print(
+        &self,
+        label: &Path,
+        files: &[(PathBuf, usize)],
+        is_skipped: bool,
+        output: &mut Output,
+    ) -> Result<(), Error> {
+        if self.options.films.options.json {
+            let files = files.iter().map(|(path, bytes)| Written::of(path, *bytes)).collect();
+            return output.object(&Object { about: About::new(label), files });
+        }
+        if self.options.output.quiet {
+            return Ok(());
+        }
+        output.gap()?;
+        print_to!(output, "{}\n", Shown::path(label));
+        for (path, size) in files {
+            print_to!(output, "written  {size} bytes: {}\n", Shown::path(path));
+        }
+        match (is_skipped, files.is_empty()) {
+            (true, _) => print_to!(output, "skipped: its files are there\n"),
+            (false, true) => print_to!(output, "written  nothing: no table has a column\n"),
+            (false, false) => {}
+        }
         Ok(())
     }
 }
@@ -88,34 +144,12 @@ fn name(table: &usm::HeaderTable) -> String {
     format!("{letters}-{}", table.place)
 }
 
-/// More CSV than this is not made of one table: cells may share a string, so that a small table could fill any disk.
-const MOST: usize = 1 << 30;
-
-/// The text of the table at a place, in a buffer.
-pub fn text_of(bytes: &[u8], place: usize, text: &mut Vec<u8>) -> Result<(), Error> {
-    let size = usm::csv_size(bytes, place)?;
-    if size > MOST {
-        return Err(Error::System(format!("the table at {place} makes {size} bytes of CSV, and {MOST} is the most")));
-    }
+/// The text of the table at a place, in a buffer. Cells may share a string, so that a small table could fill any disk.
+pub fn text_of(bytes: &[u8], place: usize, tables: Tables, limit: &mut Limit, text: &mut Vec<u8>) -> Result<(), Error> {
+    let size = usm::csv_size(bytes, place, tables)?;
+    limit.take(size as u64)?;
     make_room(text, size)?;
-    Ok(usm::csv_into(bytes, place, text)?)
-}
-
-fn print_files(
-    targets: &[PathBuf],
-    sizes: &[usize],
-    label: &std::path::Path,
-    output: &mut Output,
-) -> Result<(), Error> {
-    output.gap()?;
-    print_to!(output, "{}\n", Shown::path(label));
-    for (target, size) in targets.iter().zip(sizes) {
-        print_to!(output, "written  {size} bytes: {}\n", Shown::path(target));
-    }
-    if targets.is_empty() {
-        print_to!(output, "written  nothing: no table has a column\n");
-    }
-    Ok(())
+    Ok(usm::csv_into(bytes, place, tables, text)?)
 }
 
 #[derive(Serialize)]
@@ -134,7 +168,7 @@ struct Written<'a> {
 }
 
 impl<'a> Written<'a> {
-    fn of(path: &'a std::path::Path, bytes: usize) -> Written<'a> {
+    fn of(path: &'a Path, bytes: usize) -> Written<'a> {
         let path = path.as_os_str().as_encoded_bytes();
         Written { path: AsText(path), path_hex: AsHex(path), bytes }
     }

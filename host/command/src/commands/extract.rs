@@ -4,19 +4,18 @@ use std::path::{Path, PathBuf};
 
 use clap::Args;
 use serde::Serialize;
-use usm::{Audio, Outline, Reading};
+use usm::{Audio, Header, Reading};
 
-use crate::files::names::safe;
-use crate::files::names::stem;
-use crate::files::staged::StagedFiles;
-use crate::files::targets::{OutputOptions, Targets};
+use crate::files::names::{safe, stem};
+use crate::files::targets::{Claim, OutputOptions, Targets};
 use crate::options::key;
 use crate::options::reading::ReadingOptions;
 use crate::output::json::{About, AsHex, AsText, as_string};
 use crate::output::text::Shown;
 use crate::output::{Error, Status};
 use crate::output::{Output, print_to, report_error};
-use crate::run::sources::{Films, make_room};
+use crate::run::sources::Films;
+use crate::run::streams;
 use crate::run::workers::{self, Film, Task, Turn};
 
 /// Extract the streams of films
@@ -25,9 +24,9 @@ use crate::run::workers::{self, Film, Task, Turn};
 /// made safe, or the file's where it has none, and end in m2v or ivf and in adx or hca. With a key the streams are
 /// unmasked, without one they are as stored.
 ///
-/// Both files are complete under temporary names before either gets its own, and if the second can't have it the first
-/// is undone. So neither a full disk nor a file that is there leaves half a pair. A crash of the machine between the two
-/// can; a run that is stopped may leave temporary files, hidden and ending in .part.
+/// Both files are complete and on the disk before either gets its name, and if the second can't have it the first is
+/// undone. So neither a full disk nor a file that is there nor a run that is stopped leaves half a file or half a pair. A
+/// crash of the machine between the two names can. --force replaces regular files only, and loses none if it fails.
 #[derive(Args)]
 pub struct Extract {
     #[command(flatten)]
@@ -36,9 +35,9 @@ pub struct Extract {
     #[arg(long, short, value_name = "KEY")]
     key: Option<String>,
     #[command(flatten)]
-    choice: ReadingOptions,
+    reading: ReadingOptions,
     #[command(flatten)]
-    placing: OutputOptions,
+    output: OutputOptions,
 }
 
 impl Extract {
@@ -47,70 +46,93 @@ impl Extract {
             Ok(key) => key,
             Err(status) => return status,
         };
-        let files = match Targets::new(&self.placing, &self.films) {
-            Ok(files) => files,
+        let sources = match self.films.sources() {
+            Ok(sources) => sources,
             Err(error) => return report_error(error),
         };
-        let extraction = Extraction { key, reading: self.choice.reading(), files, options: self };
-        workers::run(&extraction, &extraction.options.films)
+        let targets = match Targets::new(&self.output, &sources) {
+            Ok(targets) => targets,
+            Err(error) => return report_error(error),
+        };
+        let extraction = Extraction { key, reading: self.reading.reading(), targets, options: &self };
+        workers::run(&extraction, &sources, &self.films.options)
     }
 }
 
-struct Extraction {
-    options: Extract,
+struct Extraction<'o> {
+    options: &'o Extract,
     key: Option<u64>,
     reading: Reading,
-    files: Targets,
+    targets: Targets,
 }
 
-impl Task for Extraction {
-    const STEPS: u64 = 2;
-
+impl Task for Extraction<'_> {
     fn film<'a>(&'a self, film: Film<'a, '_>, turn: &Turn<'a, '_>) -> Result<(), Error> {
-        let Film { label, bytes, video, audio, meter } = film;
-        let outline = usm::outline(bytes, self.reading)?;
-        let targets = self.targets(label, &outline)?;
-        make_room(video, outline.video.size)?;
-        make_room(audio, outline.audio.map_or(0, |track| track.size))?;
-        usm::extract_into(bytes, self.reading, self.key, video, audio)?;
-        let mut pair = StagedFiles::default();
-        for (target, stream) in targets.iter().zip([&*video, &*audio]) {
-            pair.write(target.clone(), stream, meter)?;
+        let Film { label, input, meter, .. } = film;
+        let mut reader = input.reader(self.reading, meter)?;
+        let files = self.files(label, reader.header());
+        if turn.decide(|| self.targets.claim(label, &files))? == Claim::Skip {
+            turn.finish_in_turn(move |output| self.print_skipped(label, output));
+            return Ok(());
         }
-        let sizes = [video.len(), audio.len()];
-        if self.options.films.json {
+        let mut staged = self.targets.staged();
+        for file in &files {
+            staged.create(file.clone())?;
+        }
+        let sizes = streams::write(&mut reader, self.key, &mut staged, meter)?;
+        reader.get_ref().check_end()?;
+        self.targets.place(label, staged)?;
+        if self.options.films.options.json {
             // The name, which may be as long as the film, stays where it is.
-            let mut printer = turn.take();
-            self.files.place(label, &pair, &targets)?;
-            return printer.object(&Extracted::of(label, outline.name, &targets, sizes));
+            let name = reader.header().name.as_deref();
+            return turn.take().object(&Extracted::of(label, name, &files, sizes));
         }
-        turn.finish_in_turn(move |output| {
-            self.files.place(label, &pair, &targets)?;
-            if self.options.placing.quiet { Ok(()) } else { print_files(label, &targets, sizes, output) }
-        });
+        turn.finish_in_turn(
+            move |output| {
+                if self.options.output.quiet { Ok(()) } else { print_files(label, &files, sizes, output) }
+            },
+        );
         Ok(())
     }
 }
 
-impl Extraction {
-    /// The files of a film: that of the video, and that of audio which is taken. None may be there, unless by force.
-    fn targets(&self, label: &Path, outline: &Outline) -> Result<Vec<PathBuf>, Error> {
-        let name = outline.name.and_then(safe).unwrap_or_else(|| stem(label));
-        let mut targets = vec![self.files.target(label, &format!("{name}.{}", outline.video.kind))];
-        if let Some(track) = &outline.audio
+impl Extraction<'_> {
+    /// The files of a film: that of the video, and that of audio which is taken.
+    fn files(&self, label: &Path, header: &Header) -> Vec<PathBuf> {
+        let name = header.name.as_deref().and_then(safe).unwrap_or_else(|| stem(label));
+        let mut files = vec![self.targets.target(label, &format!("{name}.{}", header.video.kind))];
+        if let Some(format) = &header.audio
             && self.reading.audio != Audio::None
         {
-            targets.push(self.files.target(label, &format!("{name}.{}", track.kind)));
+            files.push(self.targets.target(label, &format!("{name}.{}", format.kind)));
         }
-        self.files.check(&targets)?;
-        Ok(targets)
+        files
+    }
+
+    fn print_skipped(&self, label: &Path, output: &mut Output) -> Result<(), Error> {
+        if self.options.films.options.json {
+            return output.object(&Skipped { about: About::new(label), skipped: true });
+        }
+        if !self.options.output.quiet {
+            output.gap()?;
+            print_to!(output, "{}\nskipped: its files are there\n", Shown::path(label));
+        }
+        Ok(())
     }
 }
 
-fn print_files(label: &Path, targets: &[PathBuf], sizes: [usize; 2], output: &mut Output) -> Result<(), Error> {
+/// The object of a film whose files are all there.
+#[derive(Serialize)]
+struct Skipped<'a> {
+    #[serde(flatten)]
+    about: About<'a>,
+    skipped: bool,
+}
+
+fn print_files(label: &Path, files: &[PathBuf], sizes: [usize; 2], output: &mut Output) -> Result<(), Error> {
     output.gap()?;
     print_to!(output, "{}\n", Shown::path(label));
-    for (kind, (target, size)) in ["video", "audio"].iter().zip(targets.iter().zip(sizes)) {
+    for (kind, (target, size)) in ["video", "audio"].iter().zip(files.iter().zip(sizes)) {
         print_to!(output, "{kind}  {size} bytes: {}\n", Shown::path(target));
     }
     Ok(())
@@ -135,9 +157,9 @@ struct Stream<'a> {
 }
 
 impl<'a> Extracted<'a> {
-    fn of(label: &'a Path, name: Option<&'a [u8]>, targets: &'a [PathBuf], sizes: [usize; 2]) -> Extracted<'a> {
+    fn of(label: &'a Path, name: Option<&'a [u8]>, files: &'a [PathBuf], sizes: [usize; 2]) -> Extracted<'a> {
         let stream = |number: usize| {
-            let path = targets.get(number)?.as_os_str().as_encoded_bytes();
+            let path = files.get(number)?.as_os_str().as_encoded_bytes();
             Some(Stream { path: AsText(path), path_hex: AsHex(path), size: sizes[number] })
         };
         Extracted {

@@ -5,8 +5,9 @@ use clap::Args;
 use crate::files::targets::OutputOptions;
 use crate::options::codecs::Codecs;
 use crate::output::{Error, Status};
+use crate::run::input::make_room;
 use crate::run::rewrite::{self, Rewrite, Rewritten};
-use crate::run::sources::{Films, make_room};
+use crate::run::sources::Films;
 
 /// Move films of the old builder to films that can be read
 ///
@@ -25,13 +26,13 @@ pub struct FromOld {
     #[command(flatten)]
     codecs: Codecs,
     #[command(flatten)]
-    placing: OutputOptions,
+    output: OutputOptions,
 }
 
 impl FromOld {
     pub fn run(self) -> Status {
         let codecs = usm::Codecs { video: self.codecs.video_codec, audio: self.codecs.audio_codec };
-        rewrite::run(MovingFrom(codecs), &self.films, &self.placing)
+        rewrite::run(MovingFrom(codecs), &self.films, &self.output)
     }
 }
 
@@ -40,9 +41,9 @@ struct MovingFrom(usm::Codecs);
 impl Rewrite for MovingFrom {
     const SUFFIX: &'static str = "moved";
 
-    fn make<'b>(&self, film: &'b [u8], room: &'b mut Vec<u8>) -> Result<Rewritten<'b>, Error> {
+    fn make<'b>(&self, film: &'b [u8], room: &'b mut Vec<u8>) -> Result<Option<Rewritten<'b>>, Error> {
         make_room(room, usm::from_old_size(film, self.0)?)?;
         usm::from_old_into(film, self.0, room)?;
-        Ok(Rewritten { film: room, dropped: None })
+        Ok(Some(Rewritten { film: room, dropped: None }))
     }
 }

@@ -1,17 +1,19 @@
 //! `usm info`: what films hold.
 
-use std::collections::BTreeMap;
+use std::collections::{BTreeMap, HashMap};
+use std::path::Path;
 
 use clap::Args;
 use serde::Serialize;
-use usm::{Chunk, ChunkKind, Chunks, Outline, Track};
+use usm::{ChunkHead, ChunkKind, Format, Header, Mask, Reader};
 
-use crate::commands::list::listed;
 use crate::options::reading::ReadingOptions;
 use crate::output::json::{About, AsHex, AsText, as_some_string, as_string};
-use crate::output::text::Shown;
+use crate::output::text::{CUT, Shown};
 use crate::output::{Error, Status};
-use crate::output::{Output, print_to};
+use crate::output::{Output, print_to, report_error};
+use crate::run::input::Input;
+use crate::run::progress::Meter;
 use crate::run::sources::Films;
 use crate::run::workers::{self, Film, Task, Turn};
 
@@ -24,25 +26,29 @@ pub struct Info {
     #[command(flatten)]
     films: Films,
     #[command(flatten)]
-    choice: ReadingOptions,
+    reading: ReadingOptions,
 }
 
 impl Info {
     pub fn run(self) -> Status {
-        workers::run(&self, &self.films)
+        match self.films.sources() {
+            Ok(sources) => workers::run(&self, &sources, &self.films.options),
+            Err(error) => report_error(error),
+        }
     }
 }
 
 impl Task for Info {
     fn film<'a>(&'a self, film: Film<'a, '_>, turn: &Turn<'a, '_>) -> Result<(), Error> {
-        let reading = self.choice.reading();
-        let outline = usm::outline(film.bytes, reading)?;
-        let facts = Facts::of(&outline, &listed(film.bytes, reading)?);
+        let Film { label, input, meter, .. } = film;
+        let mut reader = input.reader(self.reading.reading(), meter)?;
+        let facts = Facts::of(&mut reader, meter)?;
+        reader.get_ref().check_end()?;
         let mut printer = turn.take();
-        if self.films.json {
-            printer.object(&Object::of(&film, &outline, &facts))
+        if self.films.options.json {
+            printer.object(&Object::of(label, reader.total(), reader.header(), &facts))
         } else {
-            print_film(&film, &outline, &facts, &mut printer)
+            print_film(label, reader.total(), reader.header(), &facts, &mut printer)
         }
     }
 }
@@ -57,6 +63,7 @@ struct Facts {
 
 #[derive(Clone, Copy)]
 struct StreamFacts {
+    size: usize,
     end: End,
     /// The start of the first chunk whose payload another key would change.
     shows_key: Option<usize>,
@@ -74,56 +81,92 @@ enum End {
 }
 
 impl Facts {
-    fn of(outline: &Outline, chunks: &Chunks) -> Facts {
+    fn of(reader: &mut Reader<&mut Input>, meter: &Meter) -> Result<Facts, Error> {
         let mut facts = Facts { counts: BTreeMap::new(), video: StreamFacts::NONE, audio: StreamFacts::NONE };
-        let is_adx = outline.audio.is_some_and(|track| track.codec == Some(ADX));
-        for chunk in chunks {
+        let mut payloads = Payloads::default();
+        while let Some(chunk) = reader.next_chunk()? {
             let (count, bytes) = facts.counts.entry((chunk.kind, chunk.channel)).or_default();
             *count += 1;
-            *bytes += chunk.payload.len();
+            *bytes += chunk.length;
             match &chunk.letters {
-                b"@SFV" => facts.video.add(&chunk, VIDEO_SHOWS_FROM),
-                b"@SFA" => facts.audio.add(&chunk, if is_adx { ADX_SHOWS_FROM } else { usize::MAX }),
+                b"@SFV" => facts.video.add(&chunk, &mut payloads),
+                b"@SFA" => facts.audio.add(&chunk, &mut payloads),
                 _ => {}
             }
+            meter.reach(reader.place());
         }
-        facts
+        Ok(facts)
     }
 }
 
-/// The audio codec whose payloads are masked.
-pub const ADX: u32 = 2;
-
-/// The bytes from which on a payload of data type 0 differs between keys: video, and ADX sound.
-pub const VIDEO_SHOWS_FROM: usize = 0x240;
-pub const ADX_SHOWS_FROM: usize = 0x141;
-
 impl StreamFacts {
-    const NONE: StreamFacts = StreamFacts { end: End::Missing, shows_key: None };
+    const NONE: StreamFacts = StreamFacts { size: 0, end: End::Missing, shows_key: None };
 
-    fn add(&mut self, chunk: &Chunk, shows_from: usize) {
+    fn add(&mut self, chunk: &ChunkHead, payloads: &mut Payloads) {
         self.end = match (chunk.kind, self.end) {
             (ChunkKind::End, _) => End::Closed,
             (_, End::Missing) => End::Missing,
             _ => End::GoesOn,
         };
-        if chunk.data_type == 0 && chunk.payload.len() >= shows_from {
-            self.shows_key.get_or_insert(chunk.start);
+        if matches!(chunk.kind, ChunkKind::Video | ChunkKind::Audio) {
+            self.size += chunk.length;
+        }
+        if self.shows_key.is_none() && payloads.show_keys(chunk.mask, chunk.length) {
+            self.shows_key = Some(chunk.start);
         }
     }
 }
 
-fn print_film(film: &Film, outline: &Outline, facts: &Facts, output: &mut Output) -> Result<(), Error> {
+/// Which payloads show a key, by their masks and lengths: those that two keys make different. It is tried out, so that
+/// the masks alone decide.
+#[derive(Default)]
+struct Payloads {
+    known: HashMap<(Mask, usize), bool>,
+}
+
+/// So many lengths are remembered.
+const MOST_KNOWN: usize = 1 << 12;
+
+impl Payloads {
+    fn show_keys(&mut self, mask: Mask, length: usize) -> bool {
+        if mask == Mask::None || length == 0 {
+            return false;
+        }
+        if self.known.len() >= MOST_KNOWN {
+            self.known.clear();
+        }
+        *self.known.entry((mask, length)).or_insert_with(|| differs(mask, length.min(LONG_ENOUGH)))
+    }
+}
+
+/// A payload of this length is tried where one is longer: what two keys change in its beginning stays.
+const LONG_ENOUGH: usize = 4 << 10;
+
+/// Whether a payload of zeros is made different by the key 0 and one of the keys that have one bit.
+fn differs(mask: Mask, length: usize) -> bool {
+    let clear = |key: u64| {
+        let mut payload = vec![0; length];
+        mask.clear(key, &mut payload);
+        payload
+    };
+    let under_zero = clear(0);
+    (0..u64::BITS).any(|bit| clear(1 << bit) != under_zero)
+}
+
+fn print_film(label: &Path, bytes: usize, header: &Header, facts: &Facts, output: &mut Output) -> Result<(), Error> {
     output.gap()?;
-    print_to!(output, "{}\n", Shown::path(film.label));
-    match outline.name {
+    print_to!(output, "{}\n", Shown::path(label));
+    match header.name.as_deref() {
+        Some(name) if name.len() > CUT => {
+            print_to!(output, "name    {} {} bytes\n", Shown::cut(name), name.len())
+        }
         Some(name) => print_to!(output, "name    {}\n", Shown::bytes(name)),
         None => print_to!(output, "name    none\n"),
     }
-    print_to!(output, "bytes   {}\n", film.bytes.len());
-    print_to!(output, "video   {}\n", stream(&outline.video, facts.video.end));
-    match &outline.audio {
-        Some(track) => print_to!(output, "audio   {}\n", stream(track, facts.audio.end)),
+    print_to!(output, "bytes   {bytes}\n");
+    print_to!(output, "video   {}\n", stream(&header.video, facts.video));
+    match &header.audio {
+        Some(format) => print_to!(output, "audio   {}\n", stream(format, facts.audio)),
         None => print_to!(output, "audio   none\n"),
     }
     print_to!(output, "key     {}\n", shows(facts.video.shows_key, facts.audio.shows_key));
@@ -138,14 +181,14 @@ fn print_film(film: &Film, outline: &Outline, facts: &Facts, output: &mut Output
     Ok(())
 }
 
-fn stream<Kind: std::fmt::Display>(track: &Track<Kind>, end: End) -> String {
-    let codec = track.codec.map_or("no codec".to_string(), |codec| format!("codec {codec}"));
-    let end = match end {
+fn stream<Kind: std::fmt::Display>(format: &Format<Kind>, facts: StreamFacts) -> String {
+    let codec = format.codec.map_or("no codec".to_string(), |codec| format!("codec {codec}"));
+    let end = match facts.end {
         End::Closed => "closed",
         End::GoesOn => "unclosed: it goes on after its end chunk",
         End::Missing => "unclosed: it has no end chunk",
     };
-    format!("{}, {codec}, {} bytes, {end}", track.kind, track.size)
+    format!("{}, {codec}, {} bytes, {end}", format.kind, facts.size)
 }
 
 fn shows(video: Option<usize>, audio: Option<usize>) -> String {
@@ -195,14 +238,14 @@ struct Group {
 }
 
 impl<'a> Object<'a> {
-    fn of(film: &'a Film<'_, '_>, outline: &Outline<'a>, facts: &Facts) -> Object<'a> {
+    fn of(label: &'a Path, bytes: usize, header: &'a Header, facts: &Facts) -> Object<'a> {
         Object {
-            about: About::new(film.label),
-            bytes: film.bytes.len(),
-            name: outline.name.map(AsText),
-            name_hex: outline.name.map(AsHex),
-            video: Stream::of(&outline.video, facts.video),
-            audio: outline.audio.map(|track| Stream::of(&track, facts.audio)),
+            about: About::new(label),
+            bytes,
+            name: header.name.as_deref().map(AsText),
+            name_hex: header.name.as_deref().map(AsHex),
+            video: Stream::of(&header.video, facts.video),
+            audio: header.audio.map(|format| Stream::of(&format, facts.audio)),
             shows_key: facts.video.shows_key.or(facts.audio.shows_key).is_some(),
             chunks: facts
                 .counts
@@ -219,11 +262,11 @@ impl<'a> Object<'a> {
 }
 
 impl Stream {
-    fn of<Kind: std::fmt::Display>(track: &Track<Kind>, facts: StreamFacts) -> Stream {
+    fn of<Kind: std::fmt::Display>(format: &Format<Kind>, facts: StreamFacts) -> Stream {
         Stream {
-            codec: track.codec,
-            kind: track.kind.to_string(),
-            size: track.size,
+            codec: format.codec,
+            kind: format.kind.to_string(),
+            size: facts.size,
             closed: facts.end == End::Closed,
             shows_key_at: facts.shows_key,
         }

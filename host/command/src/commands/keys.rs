@@ -4,16 +4,16 @@ use std::path::PathBuf;
 
 use clap::Args;
 use serde::Serialize;
-use usm::{Chunk, ChunkKind, Reading, Tenant};
+use usm::{ChunkKind, Mask, Reader, Reading};
 
-use crate::commands::info::{ADX, ADX_SHOWS_FROM, VIDEO_SHOWS_FROM};
-use crate::commands::list::listed;
 use crate::options::key::{self, Key};
 use crate::output::json::{About, as_string};
 use crate::output::text::Shown;
 use crate::output::{Error, Status};
-use crate::output::{Output, print_to, report};
-use crate::run::sources::Films;
+use crate::output::{Output, print_to, report, report_error};
+use crate::run::input::{Input, make_room};
+use crate::run::progress::Meter;
+use crate::run::sources::{RunOptions, sources};
 use crate::run::workers::{self, Film, Task, Turn};
 
 /// Say whether two keys give the same streams
@@ -33,12 +33,8 @@ pub struct Keys {
     /// Films, folders of films, or - for standard input
     #[arg(value_name = "FILE")]
     files: Vec<PathBuf>,
-    /// Work on as many films at once as there are processors
-    #[arg(short)]
-    jobs: bool,
-    /// Write a JSON object, and one for each film
-    #[arg(long)]
-    json: bool,
+    #[command(flatten)]
+    options: RunOptions,
 }
 
 const PLACES: usize = 16;
@@ -58,8 +54,10 @@ impl Keys {
             report(Status::Success, &format!("note: {note}"));
         }
         let answer = Answer { first: keys[0].number, second: keys[1].number };
-        let films = Films { files: self.files, jobs: self.jobs, json: self.json };
-        workers::run(&Run { answer, json: self.json }, &films)
+        match sources(&self.files, &self.options, "") {
+            Ok(sources) => workers::run(&Run { answer, json: self.options.json }, &sources, &self.options),
+            Err(error) => report_error(error),
+        }
     }
 }
 
@@ -74,20 +72,21 @@ impl Task for Run {
     }
 
     fn film<'a>(&'a self, film: Film<'a, '_>, turn: &Turn<'a, '_>) -> Result<(), Error> {
-        let shown = self.answer.shown(film.bytes)?;
+        let Film { label, input, meter, .. } = film;
+        let mut reader = input.reader(Reading::default(), meter)?;
+        let differs = self.answer.first_difference(&mut reader, meter)?;
+        reader.get_ref().check_end()?;
         let mut printer = turn.take();
         if self.json {
-            let same_streams = shown.is_none();
-            return printer.object(&FilmObject { about: About::new(film.label), same_streams, shown });
+            let same_streams = differs.is_none();
+            return printer.object(&FilmObject { about: About::new(label), same_streams, differs });
         }
-        let file = Shown::path(film.label);
-        match shown {
+        let file = Shown::path(label);
+        match differs {
             None => print_to!(&mut *printer, "\n{file}: the same streams under both keys\n"),
-            Some(Shows { stream, at, .. }) => {
-                print_to!(
-                    &mut *printer,
-                    "\n{file}: different streams, first in the {stream} payload of the chunk at {at}\n"
-                )
+            Some(Difference { stream, at }) => {
+                let where_ = format!("first in the {stream} payload of the chunk at {at}");
+                print_to!(&mut *printer, "\n{file}: different streams, {where_}\n")
             }
         }
         Ok(())
@@ -96,7 +95,7 @@ impl Task for Run {
 
 /// The first payload of a film that two keys make differ.
 #[derive(Serialize)]
-struct Shows {
+struct Difference {
     #[serde(rename = "differs_in")]
     stream: &'static str,
     #[serde(rename = "differs_at", serialize_with = "as_string")]
@@ -109,7 +108,7 @@ struct FilmObject<'a> {
     about: About<'a>,
     same_streams: bool,
     #[serde(flatten)]
-    shown: Option<Shows>,
+    differs: Option<Difference>,
 }
 
 struct Answer {
@@ -118,7 +117,7 @@ struct Answer {
 }
 
 impl Answer {
-    fn differs(&self, place: usize) -> bool {
+    fn has_other_digit(&self, place: usize) -> bool {
         digit(self.first, place) != digit(self.second, place)
     }
 
@@ -126,34 +125,31 @@ impl Answer {
         usm::key_table(self.first) == usm::key_table(self.second)
     }
 
-    /// Where a film shows that the keys are two. Whether it does at all the statement's function says, which is proved.
-    fn shown(&self, film: &[u8]) -> Result<Option<Shows>, Error> {
-        let tenants = [(0, self.first), (1, self.second)].map(|(number, key)| Tenant { number, key });
-        let is_adx = usm::outline(film, Reading::default())?.audio.is_some_and(|track| track.codec == Some(ADX));
-        if usm::statement(film, &tenants)?.iter().all(|share| share.group == 0) {
-            return Ok(None);
+    /// The first payload of a film that the keys make different. All payloads, made clear, are the streams (proved), so
+    /// that keys which make none different give the same streams. Those of equal tables do so for every film.
+    fn first_difference(&self, reader: &mut Reader<&mut Input>, meter: &Meter) -> Result<Option<Difference>, Error> {
+        let mut found = None;
+        while let Some(chunk) = reader.next_chunk()? {
+            if found.is_none() && !self.same_streams() && chunk.mask != Mask::None {
+                let stream = if chunk.kind == ChunkKind::Video { "video" } else { "audio" };
+                let is_different = self.differs_in(chunk.mask, reader.payload(&chunk)?)?;
+                found = is_different.then_some(Difference { stream, at: chunk.start });
+            }
+            meter.reach(reader.place());
         }
-        let chunks = listed(film, Reading::default())?;
-        Ok(chunks.iter().find_map(|chunk| {
-            let (stream, differs) = match chunk.kind {
-                ChunkKind::Video => ("video", self.video_differs(&chunk)),
-                ChunkKind::Audio => ("audio", is_adx && self.audio_differs(&chunk)),
-                _ => return None,
-            };
-            differs.then_some(Shows { stream, at: chunk.start })
-        }))
+        Ok(found)
     }
 
-    /// Every row of a masked payload depends on the whole key table.
-    fn video_differs(&self, chunk: &Chunk) -> bool {
-        chunk.data_type == 0 && chunk.payload.len() >= VIDEO_SHOWS_FROM && !self.same_streams()
-    }
-
-    /// The bytes after the first 0x140 are XORed with A, repeating.
-    fn audio_differs(&self, chunk: &Chunk) -> bool {
-        let [first, second] = [self.first, self.second].map(|key| usm::key_table(key).a);
-        let lanes = chunk.payload.len().saturating_sub(ADX_SHOWS_FROM - 1).min(first.len());
-        chunk.data_type == 0 && first[..lanes] != second[..lanes]
+    /// Whether a payload is made different.
+    fn differs_in(&self, mask: Mask, payload: &[u8]) -> Result<bool, Error> {
+        let clear = |key: u64| -> Result<Vec<u8>, Error> {
+            let mut clear = Vec::new();
+            make_room(&mut clear, payload.len())?;
+            clear.extend_from_slice(payload);
+            mask.clear(key, &mut clear);
+            Ok(clear)
+        };
+        Ok(clear(self.first)? != clear(self.second)?)
     }
 
     fn object(&self) -> Object {
@@ -162,7 +158,7 @@ impl Answer {
             second: format!("{:016X}", self.second),
             same_key: self.first == self.second,
             same_streams: self.same_streams(),
-            differing_digits: (0..PLACES).filter(|&place| self.differs(place)).collect(),
+            differing_digits: (0..PLACES).filter(|&place| self.has_other_digit(place)).collect(),
             counting_digits: (0..PLACES).filter(|&place| counts(place)).collect(),
         }
     }
@@ -170,7 +166,7 @@ impl Answer {
     fn print(&self, output: &mut Output) -> Result<(), Error> {
         let row = |mark: &dyn Fn(usize) -> char| (0..PLACES).map(mark).collect::<String>();
         let counts = row(&|place| if counts(place) { '+' } else { '-' });
-        let differs = row(&|place| if self.differs(place) { '^' } else { '.' });
+        let differs = row(&|place| if self.has_other_digit(place) { '^' } else { '.' });
         print_to!(output, "first key   {:016X}\n", self.first);
         print_to!(output, "second key  {:016X}\n", self.second);
         print_to!(output, "counts      {counts}  + can touch a picture and ADX sound, - never does\n");

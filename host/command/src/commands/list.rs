@@ -1,17 +1,20 @@
 //! `usm list`: the chunks of films.
 
+use std::cell::RefCell;
 use std::path::Path;
 
 use clap::Args;
-use serde::ser::SerializeSeq;
+use serde::ser::{Error as _, SerializeSeq};
 use serde::{Serialize, Serializer};
-use usm::{Chunk, Chunks, Reading};
+use usm::{ChunkHead, Reader};
 
 use crate::options::reading::ReadingOptions;
+use crate::output::csv::{CsvLines, SpreadsheetOption, field};
 use crate::output::json::{About, as_string};
 use crate::output::text::Shown;
 use crate::output::{Error, Status};
-use crate::output::{Output, print_to};
+use crate::output::{Output, print_to, report_error};
+use crate::run::input::Input;
 use crate::run::sources::Films;
 use crate::run::workers::{self, Film, Task, Turn};
 
@@ -27,93 +30,103 @@ pub struct List {
     #[arg(long, conflicts_with = "json")]
     csv: bool,
     #[command(flatten)]
-    choice: ReadingOptions,
+    spreadsheet: SpreadsheetOption,
+    #[command(flatten)]
+    reading: ReadingOptions,
 }
 
 impl List {
     pub fn run(self) -> Status {
-        workers::run(&self, &self.films)
+        match self.films.sources() {
+            Ok(sources) => workers::run(&self, &sources, &self.films.options),
+            Err(error) => report_error(error),
+        }
     }
 }
 
 impl Task for List {
+    fn begin(&self, output: &mut Output) -> Result<(), Error> {
+        if !self.csv {
+            return Ok(());
+        }
+        let mut csv = CsvLines::new(output, false);
+        csv.line(["file", "start", "kind", "type", "channel", "length"].map(field))?;
+        csv.end()
+    }
+
     fn film<'a>(&'a self, film: Film<'a, '_>, turn: &Turn<'a, '_>) -> Result<(), Error> {
-        let chunks = listed(film.bytes, self.choice.reading())?;
+        let Film { label, input, meter, .. } = film;
+        let mut reader = input.reader(self.reading.reading(), meter)?;
+        // What is printed can't be taken back: all chunks are looked at before.
+        let mut count = 0;
+        while reader.next_chunk()?.is_some() {
+            count += 1;
+            meter.reach(reader.place());
+        }
+        reader.get_ref().check_end()?;
+        reader.rewind()?;
         let mut printer = turn.take();
-        if self.films.json {
-            printer.object(&Object { about: About::new(film.label), chunks: InOrder(&chunks) })
+        if self.films.options.json {
+            printer.object(&Object { about: About::new(label), chunks: InOrder::of(&mut reader) })
         } else if self.csv {
-            write_csv(film.label, &chunks, &mut printer)
+            print_lines(label, &mut reader, CsvLines::new(&mut printer, self.spreadsheet.spreadsheet))
         } else {
-            print_chunks(&film, &chunks, &mut printer)
+            print_chunks(label, count, &mut reader, &mut printer)
         }
     }
 }
 
-/// The chunks of a film, if there is memory for their records.
-pub fn listed(film: &[u8], reading: Reading) -> Result<Chunks<'_>, Error> {
-    let count = usm::count(film, reading)?;
-    let tried = Vec::<[u64; 3]>::new().try_reserve_exact(count);
-    tried.map_err(|_| Error::System(format!("no memory for a list of {count} chunks")))?;
-    Ok(usm::list(film, reading)?)
-}
-
-fn print_chunks(film: &Film, chunks: &Chunks, output: &mut Output) -> Result<(), Error> {
+fn print_chunks(label: &Path, count: usize, reader: &mut Reader<&mut Input>, output: &mut Output) -> Result<(), Error> {
     output.gap()?;
-    let wide = film.bytes.len().to_string().len().max("length".len());
-    print_to!(output, "{}: {} chunks\n", Shown::path(film.label), chunks.len());
-    if !chunks.is_empty() {
+    let wide = reader.total().to_string().len().max("length".len());
+    let chunks = if count == 1 { "chunk" } else { "chunks" };
+    print_to!(output, "{}: {count} {chunks}\n", Shown::path(label));
+    if count > 0 {
         print_to!(output, "{:>wide$}  kind   type  channel  {:>wide$}\n", "start", "length");
     }
-    for Chunk { start, kind, data_type, channel, payload, .. } in chunks {
-        print_to!(output, "{start:>wide$}  {kind:<5}  {data_type:>4}  {channel:>7}  {:>wide$}\n", payload.len());
+    while let Some(ChunkHead { start, kind, data_type, channel, length, .. }) = reader.next_chunk()? {
+        print_to!(output, "{start:>wide$}  {kind:<5}  {data_type:>4}  {channel:>7}  {length:>wide$}\n");
     }
     Ok(())
 }
 
-fn write_csv(label: &Path, chunks: &Chunks, output: &mut Output) -> Result<(), Error> {
-    let is_first = !output.is_begun();
-    let mut csv = csv::WriterBuilder::new().terminator(csv::Terminator::CRLF).from_writer(output);
+fn print_lines(label: &Path, reader: &mut Reader<&mut Input>, mut csv: CsvLines) -> Result<(), Error> {
     let file = label.as_os_str().as_encoded_bytes();
-    let mut write = || {
-        if is_first {
-            csv.write_record(["file", "start", "kind", "type", "channel", "length"])?;
-        }
-        for chunk in chunks {
-            csv.write_field(file)?;
-            csv.write_field(chunk.start.to_string())?;
-            csv.write_field(chunk.kind.to_string())?;
-            csv.write_field(chunk.data_type.to_string())?;
-            csv.write_field(chunk.channel.to_string())?;
-            csv.write_field(chunk.payload.len().to_string())?;
-            csv.write_record(None::<&[u8]>)?;
-        }
-        csv.flush()?;
-        Ok(())
-    };
-    write().map_err(|error: csv::Error| Error::Output(error.into()))
+    while let Some(chunk) = reader.next_chunk()? {
+        let numbers =
+            [field(chunk.start), field(chunk.kind), field(chunk.data_type), field(chunk.channel), field(chunk.length)];
+        csv.line(std::iter::once(file.into()).chain(numbers))?;
+    }
+    csv.end()
 }
 
 #[derive(Serialize)]
-struct Object<'a> {
+struct Object<'a, 'r, 'i> {
     #[serde(flatten)]
     about: About<'a>,
-    chunks: InOrder<'a>,
+    chunks: InOrder<'r, 'i>,
 }
 
 /// Chunks, written one after the other.
-struct InOrder<'a>(&'a Chunks<'a>);
+struct InOrder<'r, 'i>(RefCell<&'r mut Reader<&'i mut Input>>);
 
-impl Serialize for InOrder<'_> {
+impl<'r, 'i> InOrder<'r, 'i> {
+    fn of(reader: &'r mut Reader<&'i mut Input>) -> InOrder<'r, 'i> {
+        InOrder(RefCell::new(reader))
+    }
+}
+
+impl Serialize for InOrder<'_, '_> {
     fn serialize<S: Serializer>(&self, serializer: S) -> Result<S::Ok, S::Error> {
-        let mut sequence = serializer.serialize_seq(Some(self.0.len()))?;
-        for chunk in self.0 {
+        let mut reader = self.0.borrow_mut();
+        let mut sequence = serializer.serialize_seq(None)?;
+        while let Some(chunk) = reader.next_chunk().map_err(S::Error::custom)? {
             sequence.serialize_element(&Record {
                 start: chunk.start,
                 kind: chunk.kind.to_string(),
                 data_type: chunk.data_type,
                 channel: chunk.channel,
-                length: chunk.payload.len(),
+                length: chunk.length,
             })?;
         }
         sequence.end()

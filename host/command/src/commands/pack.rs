@@ -2,21 +2,23 @@
 
 use std::ffi::OsString;
 use std::os::unix::ffi::OsStrExt;
-use std::path::{Path, PathBuf};
+use std::path::PathBuf;
 
 use clap::Args;
 use serde::Serialize;
 use usm::Streams;
 
-use crate::files::staged::StagedFiles;
+use crate::files::identity::FileId;
+use crate::files::staged::{Replacing, StagedFiles};
 use crate::options::codecs::Codecs;
 use crate::options::key;
 use crate::output::json::{About, FailedFilm, as_some_string, as_string};
 use crate::output::text::Shown;
 use crate::output::{Error, Status};
 use crate::output::{Output, print_to, report, report_error, write_all};
+use crate::run::input::make_room;
 use crate::run::progress::{Meter, Progress};
-use crate::run::sources::{Source, make_room};
+use crate::run::sources::{Origin, Source};
 
 /// Pack streams into a film
 ///
@@ -47,10 +49,13 @@ pub struct Pack {
     /// Replace the film if it is there
     #[arg(long)]
     force: bool,
+    /// Do not wait until the film is on the disk
+    #[arg(long)]
+    no_sync: bool,
     /// Write a JSON object
     #[arg(long, conflicts_with = "quiet")]
     json: bool,
-    /// Tell of errors alone
+    /// Print errors only
     #[arg(long, short)]
     quiet: bool,
 }
@@ -61,12 +66,13 @@ impl Pack {
             Ok(key) => key,
             Err(status) => return status,
         };
-        let (video, audio) = (source(&self.video), self.audio.as_deref().map(source));
-        if matches!((&video, &audio), (Source::StandardInput, Some(Source::StandardInput))) {
+        let (video, audio) = (Source::named(&self.video), self.audio.as_deref().map(Source::named));
+        let is_input = |source: &Source| source.origin == Origin::StandardInput;
+        if is_input(&video) && audio.as_ref().is_some_and(is_input) {
             return report(Status::Failed, "standard input can't be both streams");
         }
         let sources = [Some(video), audio];
-        let total: Option<u64> = sources.iter().flatten().map(Source::length).sum();
+        let total: Option<u64> = sources.iter().flatten().map(|source| source.length).sum();
         let progress = Progress::new(total);
         let packed = self.pack(key, &sources, &Meter::new(&progress, 2, total.unwrap_or(0)));
         progress.end();
@@ -81,7 +87,8 @@ impl Pack {
         let mut streams = [const { Vec::new() }; 2];
         for (source, stream) in sources.iter().zip(&mut streams) {
             if let Some(source) = source {
-                source.read(stream, meter).map_err(|error| error.of(source.label()))?;
+                let read = source.open().and_then(|mut input| input.read_all(stream, meter));
+                read.map_err(|error| error.of(&source.label))?;
             }
         }
         let [video, audio] = &streams;
@@ -92,9 +99,12 @@ impl Pack {
         let mut film = Vec::new();
         make_room(&mut film, usm::packed_size(packed)?)?;
         usm::pack_into(packed, key, &mut film)?;
-        let mut pair = StagedFiles::default();
-        pair.write(self.output.clone(), &film, meter)?;
-        pair.place(self.force)?;
+        let mut staged = StagedFiles::new(!self.no_sync);
+        staged.write(self.output.clone(), &film)?;
+        meter.advance(film.len() as u64);
+        let is_stream = |id: FileId| sources.iter().flatten().any(|source| source.id == Some(id));
+        let is_kept = |id: FileId| is_stream(id).then(|| "it is one of the streams".to_string());
+        staged.place(&Replacing { force: self.force, is_kept: &is_kept })?;
         Ok(Sizes { film: film.len(), video: video.len(), audio: self.audio.as_ref().map(|_| audio.len()) })
     }
 
@@ -125,10 +135,6 @@ impl Pack {
         };
         status.max(printed)
     }
-}
-
-fn source(path: &Path) -> Source {
-    if path.as_os_str() == "-" { Source::StandardInput } else { Source::File(path.to_path_buf()) }
 }
 
 #[derive(Serialize)]

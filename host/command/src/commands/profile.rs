@@ -5,9 +5,9 @@ use serde::Serialize;
 use usm::Offence;
 
 use crate::output::json::{About, as_some_string};
-use crate::output::print_to;
 use crate::output::text::Shown;
 use crate::output::{Error, Status};
+use crate::output::{print_to, report_error};
 use crate::run::sources::Films;
 use crate::run::workers::{self, Film, Task, Turn};
 
@@ -25,21 +25,25 @@ pub struct Profile {
 
 impl Profile {
     pub fn run(self) -> Status {
-        workers::run(&self, &self.films)
+        match self.films.sources() {
+            Ok(sources) => workers::run(&self, &sources, &self.films.options),
+            Err(error) => report_error(error),
+        }
     }
 }
 
 impl Task for Profile {
     fn film<'a>(&'a self, film: Film<'a, '_>, turn: &Turn<'a, '_>) -> Result<(), Error> {
-        let offence = usm::profile(film.bytes)?;
+        let label = film.label;
+        let offence = usm::profile(film.read()?.bytes)?;
         let mut printer = turn.take();
         if offence.is_some() {
             printer.raise(Status::Refused);
         }
-        if self.films.json {
-            return printer.object(&Object { about: About::new(film.label), answer: Answer::of(offence) });
+        if self.films.options.json {
+            return printer.object(&Object { about: About::new(label), answer: Answer::of(offence) });
         }
-        let file = Shown::path(film.label);
+        let file = Shown::path(label);
         match offence {
             None => print_to!(&mut *printer, "{file}: plain\n"),
             Some(Offence { rule, place, .. }) => {

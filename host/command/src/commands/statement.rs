@@ -2,17 +2,17 @@
 
 use std::collections::BTreeMap;
 use std::path::{Path, PathBuf};
-use std::sync::{Mutex, PoisonError};
+use std::sync::{Mutex, MutexGuard, PoisonError};
 
 use clap::Args;
 use serde::Serialize;
-use usm::{Reason, Share, Tenant};
+use usm::{Share, Tenant};
 
-use crate::options::key;
+use crate::options::tenants;
+use crate::output::csv::{CsvLines, SpreadsheetOption, field};
 use crate::output::json::About;
 use crate::output::text::Shown;
-use crate::output::{Error, Status};
-use crate::output::{Output, print_to, report, report_error};
+use crate::output::{Error, Output, Status, print_to, report_error};
 use crate::run::sources::Films;
 use crate::run::workers::{self, Film, Task, Turn};
 
@@ -20,10 +20,11 @@ use crate::run::workers::{self, Film, Task, Turn};
 ///
 /// Tenants whose keys give the same streams for a film are a group and have one copy of it. Its bytes, those of both
 /// streams, are divided evenly within the group; a remainder goes one byte each to the lowest tenants. A line gives a
-/// tenant, the lowest tenant of its group, and its share; after all films come the totals by tenant.
+/// tenant, the lowest tenant of its group, and its share; after all films come the totals by tenant. Films are not
+/// compared with each other: two files that hold the same film are two copies.
 ///
-/// TENANTS is a CSV file with a line for each of up to 16 tenants: its number, which is decimal, and its key, in hex. A
-/// first line `tenant,key` may stand above them.
+/// TENANTS is a CSV file, or - for standard input, with a line for each of up to 16 tenants: its number, which is decimal,
+/// and its key, in hex, with a comma or a semicolon between them. A first line `tenant,key` may stand above them.
 #[derive(Args)]
 pub struct Statement {
     /// The tenants, a CSV file
@@ -31,119 +32,127 @@ pub struct Statement {
     tenants: PathBuf,
     #[command(flatten)]
     films: Films,
-    /// Write CSV: a line for each share, with its film in front, then the totals, without a film
+    /// Write CSV: a line for each share, with its film in front, and one for each film that fails, with the error
     #[arg(long, conflicts_with = "json")]
     csv: bool,
+    /// With --csv, write the totals by tenant in place of the shares
+    #[arg(long, requires = "csv")]
+    totals: bool,
+    #[command(flatten)]
+    spreadsheet: SpreadsheetOption,
 }
 
 impl Statement {
     pub fn run(self) -> Status {
-        match tenants(&self.tenants) {
-            Ok(tenants) => workers::run(&Run { options: &self, tenants, totals: Mutex::default() }, &self.films),
+        let begin = || {
+            if self.tenants.as_os_str() == "-" && self.films.files.iter().any(|file| file.as_os_str() == "-") {
+                return Err(Error::System("standard input can't be the tenants and a film".to_string()));
+            }
+            Ok((tenants::read(&self.tenants)?, self.films.sources()?))
+        };
+        match begin() {
+            Ok((tenants, sources)) => {
+                let run = Run { options: &self, tenants, totals: Mutex::default() };
+                workers::run(&run, &sources, &self.films.options)
+            }
             Err(error) => report_error(error),
         }
     }
 }
 
-/// Reads the tenants. Whether they may stand together is for the proved function to say.
-fn tenants(path: &Path) -> Result<Vec<Tenant>, Error> {
-    let mut reader = csv::ReaderBuilder::new()
-        .has_headers(false)
-        .flexible(true)
-        .trim(csv::Trim::All)
-        .from_path(path)
-        .map_err(|error| Error::with(path, error))?;
-    let mut tenants = Vec::new();
-    for (number, record) in reader.byte_records().enumerate() {
-        let record = record.map_err(|error| Error::with(path, error))?;
-        let words: Vec<&[u8]> = record.iter().collect();
-        match words[..] {
-            [first, second] if number == 0 && first.eq_ignore_ascii_case(b"tenant") && second == b"key" => {}
-            [first, second] => {
-                let line = record.position().map_or(0, csv::Position::line);
-                let wrong = |why: &str| Error::with(path, format!("line {line}: {why}"));
-                tenants.push(Tenant {
-                    number: tenant(first).map_err(|why| wrong(&why))?,
-                    key: typed(second).map_err(|why| wrong(&why))?,
-                });
-            }
-            _ => return Err(Error::with(path, format!("record {}: it is no number and key", number + 1))),
-        }
-    }
-    // A film of no bytes is refused, and for its tenants before anything else.
-    match usm::statement(&[], &tenants) {
-        Err(refusal) if refusal.reason == Reason::BadTenants => Err(Error::with(path, refusal.reason)),
-        _ => Ok(tenants),
-    }
-}
-
-fn tenant(word: &[u8]) -> Result<u64, String> {
-    let number = std::str::from_utf8(word).ok().and_then(|word| word.parse().ok());
-    number.ok_or_else(|| format!("{} is no tenant's number", Shown::bytes(word)))
-}
-
-fn typed(word: &[u8]) -> Result<u64, String> {
-    let key = key::typed(&String::from_utf8_lossy(word)).map_err(|why| format!("{} is {why}", Shown::bytes(word)))?;
-    if let Some(note) = &key.note {
-        report(Status::Success, &format!("note: {note}"));
-    }
-    Ok(key.number)
-}
-
-struct Run<'t> {
-    options: &'t Statement,
+struct Run<'o> {
+    options: &'o Statement,
     tenants: Vec<Tenant>,
     totals: Mutex<Totals>,
 }
 
-/// The films that were done, and what each tenant owes for them.
+/// The films that were done, those that were not, and what each tenant owes.
 #[derive(Default)]
 struct Totals {
     films: usize,
+    failed: usize,
     bytes: BTreeMap<u64, u64>,
 }
 
 impl Task for Run<'_> {
+    fn begin(&self, output: &mut Output) -> Result<(), Error> {
+        if !self.options.csv {
+            return Ok(());
+        }
+        let mut csv = CsvLines::new(output, false);
+        if self.options.totals {
+            csv.line(["tenant", "bytes"].map(field))?;
+        } else {
+            csv.line(["file", "tenant", "group", "bytes", "error"].map(field))?;
+        }
+        csv.end()
+    }
+
     fn film<'a>(&'a self, film: Film<'a, '_>, turn: &Turn<'a, '_>) -> Result<(), Error> {
-        let shares = usm::statement(film.bytes, &self.tenants)?;
+        let label = film.label;
+        let shares = usm::statement(film.read()?.bytes, &self.tenants)?;
         let mut printer = turn.take();
-        self.add(&shares);
-        if self.options.films.json {
-            return printer
-                .object(&Object { about: About::new(film.label), shares: shares.iter().map(Line::of).collect() });
+        self.totals().add(&shares);
+        if self.options.films.options.json {
+            let shares = shares.iter().map(Line::of).collect();
+            return printer.object(&Object { about: About::new(label), shares });
         }
         if self.options.csv {
-            let is_first = !printer.is_begun();
-            return write_csv(is_first, shares.iter().map(|share| row(film.label, share)), &mut printer);
+            return if self.options.totals { Ok(()) } else { self.print_lines(label, &shares, &mut printer) };
         }
-        print_shares(film.label, &shares, &mut printer)
+        print_shares(label, &shares, &mut printer)
+    }
+
+    fn failed(&self, label: &Path, error: &Error, output: &mut Output) -> Result<(), Error> {
+        self.totals().failed += 1;
+        if !self.options.csv || self.options.totals {
+            return Ok(());
+        }
+        let mut csv = CsvLines::new(output, self.options.spreadsheet.spreadsheet);
+        let why = match error {
+            Error::Refused(refusal) => refusal.to_string(),
+            Error::System(what) => what.clone(),
+            Error::Output(_) => String::new(),
+        };
+        csv.line([file_field(label), field(""), field(""), field(""), field(why)])?;
+        csv.end()
     }
 
     fn end(&self, output: &mut Output) -> Result<(), Error> {
-        let totals = self.totals.lock().unwrap_or_else(PoisonError::into_inner);
-        if totals.films == 0 {
-            return Ok(());
-        }
-        if self.options.films.json {
+        let totals = self.totals();
+        if self.options.films.options.json {
             return output.object(&totals.object());
         }
-        if self.options.csv {
-            let rows =
-                totals.bytes.iter().map(|(tenant, bytes)| [Vec::new(), digits(*tenant), Vec::new(), digits(*bytes)]);
-            return write_csv(false, rows, output);
+        if !self.options.csv {
+            return totals.print(output);
         }
-        totals.print(output)
+        if !self.options.totals {
+            return Ok(());
+        }
+        let mut csv = CsvLines::new(output, false);
+        for (tenant, bytes) in &totals.bytes {
+            csv.line([field(tenant), field(bytes)])?;
+        }
+        csv.end()
     }
 }
 
 impl Run<'_> {
-    fn add(&self, shares: &[Share]) {
-        let mut totals = self.totals.lock().unwrap_or_else(PoisonError::into_inner);
-        totals.films += 1;
-        for share in shares {
-            *totals.bytes.entry(share.tenant).or_default() += share.bytes;
-        }
+    fn totals(&self) -> MutexGuard<'_, Totals> {
+        self.totals.lock().unwrap_or_else(PoisonError::into_inner)
     }
+
+    fn print_lines(&self, label: &Path, shares: &[Share], output: &mut Output) -> Result<(), Error> {
+        let mut csv = CsvLines::new(output, self.options.spreadsheet.spreadsheet);
+        for share in shares {
+            csv.line([file_field(label), field(share.tenant), field(share.group), field(share.bytes), field("")])?;
+        }
+        csv.end()
+    }
+}
+
+fn file_field(label: &Path) -> std::borrow::Cow<'_, [u8]> {
+    label.as_os_str().as_encoded_bytes().into()
 }
 
 fn print_shares(label: &Path, shares: &[Share], output: &mut Output) -> Result<(), Error> {
@@ -156,10 +165,24 @@ fn print_shares(label: &Path, shares: &[Share], output: &mut Output) -> Result<(
 }
 
 impl Totals {
+    fn add(&mut self, shares: &[Share]) {
+        self.films += 1;
+        for share in shares {
+            *self.bytes.entry(share.tenant).or_default() += share.bytes;
+        }
+    }
+
     fn print(&self, output: &mut Output) -> Result<(), Error> {
         output.gap()?;
         let films = if self.films == 1 { "1 film".to_string() } else { format!("{} films", self.films) };
-        print_to!(output, "total of {films}\n{:>20}  {:>20}  {:>12}\n", "tenant", "", "bytes");
+        let failed = match self.failed {
+            0 => String::new(),
+            failed => format!(", {failed} not done: this statement is incomplete"),
+        };
+        print_to!(output, "total of {films}{failed}\n");
+        if self.films > 0 {
+            print_to!(output, "{:>20}  {:>20}  {:>12}\n", "tenant", "", "bytes");
+        }
         for (tenant, bytes) in &self.bytes {
             print_to!(output, "{tenant:>20}  {:>20}  {bytes:>12}\n", "");
         }
@@ -168,32 +191,8 @@ impl Totals {
 
     fn object(&self) -> TotalsObject {
         let total = |(tenant, bytes): (&u64, &u64)| Total { tenant: tenant.to_string(), bytes: bytes.to_string() };
-        TotalsObject { films: self.films, totals: self.bytes.iter().map(total).collect() }
+        TotalsObject { films: self.films, failed: self.failed, totals: self.bytes.iter().map(total).collect() }
     }
-}
-
-fn digits(number: u64) -> Vec<u8> {
-    number.to_string().into_bytes()
-}
-
-fn row(label: &Path, share: &Share) -> [Vec<u8>; 4] {
-    let file = label.as_os_str().as_encoded_bytes().to_vec();
-    [file, digits(share.tenant), digits(share.group), digits(share.bytes)]
-}
-
-fn write_csv(is_first: bool, rows: impl Iterator<Item = [Vec<u8>; 4]>, output: &mut Output) -> Result<(), Error> {
-    let mut csv = csv::WriterBuilder::new().terminator(csv::Terminator::CRLF).from_writer(output);
-    let write = || {
-        if is_first {
-            csv.write_record(["file", "tenant", "group", "bytes"])?;
-        }
-        for row in rows {
-            csv.write_record(&row)?;
-        }
-        csv.flush()?;
-        Ok(())
-    };
-    write().map_err(|error: csv::Error| Error::Output(error.into()))
 }
 
 #[derive(Serialize)]
@@ -219,6 +218,7 @@ impl Line {
 #[derive(Serialize)]
 struct TotalsObject {
     films: usize,
+    failed: usize,
     totals: Vec<Total>,
 }
 

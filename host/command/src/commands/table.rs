@@ -2,6 +2,7 @@
 
 use std::fmt::{self, Display};
 use std::io::Write;
+use std::path::Path;
 
 use clap::Args;
 use serde::ser::SerializeSeq;
@@ -9,12 +10,15 @@ use serde::{Serialize, Serializer};
 use usm::{Cell, Column, Row};
 
 use crate::commands::csv::text_of;
-use crate::output::json::{About, AsHex, AsText, as_string};
-use crate::output::text::{Hex, Shown};
+use crate::options::limit::{LimitOption, place};
+use crate::options::reading::TableOptions;
+use crate::output::csv::{SpreadsheetOption, for_spreadsheets, is_plain_text};
+use crate::output::json::{self, About, AsHex, AsText, as_string};
+use crate::output::text::{CUT, Hex, Shown};
 use crate::output::{Error, Status};
-use crate::output::{Output, print_to, report};
+use crate::output::{Output, print_to, report, report_error};
 use crate::run::sources::Films;
-use crate::run::workers::{self, Film, Task, Turn};
+use crate::run::workers::{self, Film, Task, Turn, WholeFilm};
 
 /// Show the tables of films' headers
 ///
@@ -29,6 +33,12 @@ pub struct Table {
     /// Write the table at the place of one file as CSV, by RFC 4180: names, then rows; data and floats in hex
     #[arg(long, conflicts_with = "json", requires = "at")]
     csv: bool,
+    #[command(flatten)]
+    spreadsheet: SpreadsheetOption,
+    #[command(flatten)]
+    tables: TableOptions,
+    #[command(flatten)]
+    limit: LimitOption,
 }
 
 impl Table {
@@ -36,41 +46,54 @@ impl Table {
         if self.csv && !matches!(&self.films.files[..], [file] if !file.is_dir()) {
             return report(Status::Failed, "--csv writes one table: name one file");
         }
-        workers::run(&self, &self.films)
+        match self.films.sources() {
+            Ok(sources) => workers::run(&self, &sources, &self.films.options),
+            Err(error) => report_error(error),
+        }
     }
-}
-
-pub fn place(word: &str) -> Result<usize, String> {
-    let number = match word.strip_prefix("0x").or_else(|| word.strip_prefix("0X")) {
-        Some(digits) => usize::from_str_radix(digits, 16),
-        None => word.parse(),
-    };
-    number.map_err(|error| error.to_string())
 }
 
 impl Task for Table {
     fn film<'a>(&'a self, film: Film<'a, '_>, turn: &Turn<'a, '_>) -> Result<(), Error> {
+        let label = film.label;
+        let WholeFilm { bytes, made: text } = film.read()?;
+        let mut limit = self.limit.limit();
         if let (true, Some(place)) = (self.csv, self.at) {
-            let text = film.video;
-            text_of(film.bytes, place, text)?;
-            return turn.take().write_all(text).map_err(Error::Output);
+            text_of(bytes, place, self.tables.tables(), &mut limit, text)?;
+            if self.spreadsheet.spreadsheet {
+                *text = for_spreadsheets(text)?;
+            }
+            let mut printer = turn.take();
+            if printer.is_terminal() && !is_plain_text(text) {
+                let why = "the table holds bytes that a terminal would obey: write it to a file, by > FILE or usm csv";
+                return Err(Error::System(why.to_string()));
+            }
+            return printer.write_all(text).map_err(Error::Output);
         }
-        let tables = match self.at {
-            Some(place) => vec![Placed { letters: None, place, table: usm::table(film.bytes, place)? }],
-            None => usm::header_tables(film.bytes)?
-                .iter()
-                .map(|found| {
-                    let table = usm::table(film.bytes, found.place)?;
-                    Ok(Placed { letters: Some(found.letters), place: found.place, table })
-                })
-                .collect::<Result<_, Error>>()?,
-        };
+        let tables = self.placed(bytes)?;
+        if self.films.options.json {
+            let object = Object { about: About::new(label), tables: &tables };
+            limit.take(json::size_within(&object, limit.left()).ok_or_else(|| limit.exceeded())?)?;
+            return turn.take().object(&object);
+        }
         let mut printer = turn.take();
-        if self.films.json {
-            printer.object(&Object { about: About::new(film.label), tables: &tables })
-        } else {
-            tables.iter().try_for_each(|placed| print_table(&film, placed, &mut printer))
-        }
+        tables.iter().try_for_each(|placed| print_table(label, placed, &mut printer))
+    }
+}
+
+impl Table {
+    /// The tables that are asked for.
+    fn placed<'f>(&self, film: &'f [u8]) -> Result<Vec<Placed<'f>>, Error> {
+        let tables = self.tables.tables();
+        let Some(place) = self.at else {
+            let found = usm::header_tables(film, usm::Reading::default().with_tables(tables))?;
+            let placed = found.iter().map(|found| {
+                let table = usm::table(film, found.place, tables)?;
+                Ok(Placed { letters: Some(found.letters), place: found.place, table })
+            });
+            return placed.collect();
+        };
+        Ok(vec![Placed { letters: None, place, table: usm::table(film, place, tables)? }])
     }
 }
 
@@ -84,23 +107,23 @@ struct Placed<'a> {
 /// So many bytes of data are shown to a person.
 const SHOWN: usize = 32;
 
-fn print_table(film: &Film, placed: &Placed, output: &mut Output) -> Result<(), Error> {
+fn print_table(label: &Path, placed: &Placed, output: &mut Output) -> Result<(), Error> {
     let Placed { letters, place, table } = placed;
     output.gap()?;
     let block = letters.map_or(String::new(), |letters| format!("{} ", Shown::bytes(&letters)));
     let (columns, rows) = (table.columns().len(), table.row_count());
-    print_to!(output, "{}: {block}table at {place}: columns {columns}, rows {rows}\n", Shown::path(film.label));
+    print_to!(output, "{}: {block}table at {place}: columns {columns}, rows {rows}\n", Shown::path(label));
     for (number, row) in table.rows().enumerate() {
         if rows > 1 {
             print_to!(output, "row {number}\n");
         }
         for (column, cell) in table.columns().iter().zip(row.cells()) {
-            print_to!(output, "  {}  {}\n", Shown::bytes(column.name), ForPerson(cell));
+            print_to!(output, "  {}  {}\n", Shown::cut(column.name), ForPerson(cell));
         }
     }
     if rows == 0 {
         for column in table.columns() {
-            print_to!(output, "  {}\n", Shown::bytes(column.name));
+            print_to!(output, "  {}\n", Shown::cut(column.name));
         }
     }
     Ok(())
@@ -114,6 +137,7 @@ impl Display for ForPerson<'_> {
             Cell::Unsigned(number) => write!(f, "{number}"),
             Cell::Signed(number) => write!(f, "{number}"),
             Cell::Float(float) => write!(f, "{float} ({:08x})", float.to_bits()),
+            Cell::String(text) if text.len() > CUT => write!(f, "\"{}\" {} bytes", Shown::cut(text), text.len()),
             Cell::String(text) => write!(f, "\"{}\"", Shown::bytes(text)),
             Cell::Data(data) if data.len() > SHOWN => write!(f, "{}.. {} bytes", Hex(&data[..SHOWN]), data.len()),
             Cell::Data(data) => write!(f, "{} {} bytes", Hex(data), data.len()),

@@ -4,8 +4,9 @@ use clap::Args;
 
 use crate::files::targets::OutputOptions;
 use crate::output::{Error, Status};
+use crate::run::input::make_room;
 use crate::run::rewrite::{self, Rewrite, Rewritten};
-use crate::run::sources::{Films, make_room};
+use crate::run::sources::Films;
 
 /// Move films back to those of the old builder
 ///
@@ -18,12 +19,12 @@ pub struct ToOld {
     #[command(flatten)]
     films: Films,
     #[command(flatten)]
-    placing: OutputOptions,
+    output: OutputOptions,
 }
 
 impl ToOld {
     pub fn run(self) -> Status {
-        rewrite::run(MovingBack, &self.films, &self.placing)
+        rewrite::run(MovingBack, &self.films, &self.output)
     }
 }
 
@@ -32,10 +33,10 @@ struct MovingBack;
 impl Rewrite for MovingBack {
     const SUFFIX: &'static str = "old";
 
-    fn make<'b>(&self, film: &'b [u8], room: &'b mut Vec<u8>) -> Result<Rewritten<'b>, Error> {
+    fn make<'b>(&self, film: &'b [u8], room: &'b mut Vec<u8>) -> Result<Option<Rewritten<'b>>, Error> {
         // The old film is shorter.
         make_room(room, film.len())?;
         usm::to_old_into(film, room)?;
-        Ok(Rewritten { film: room, dropped: None })
+        Ok(Some(Rewritten { film: room, dropped: None }))
     }
 }

@@ -1,5 +1,8 @@
 //! The files that a run makes: their names, how they come into being, and where they go.
 
+pub mod identity;
+pub mod leftovers;
 pub mod names;
 pub mod staged;
+pub mod system;
 pub mod targets;

@@ -4,14 +4,15 @@ use std::collections::{HashMap, HashSet};
 use std::fs;
 use std::io;
 use std::path::{Path, PathBuf};
-use std::sync::{Mutex, PoisonError};
+use std::sync::{Mutex, MutexGuard, PoisonError};
 
 use clap::Args;
 
-use crate::files::staged::{EXISTS, StagedFiles};
-use crate::output::error::Error;
+use crate::files::identity::FileId;
+use crate::files::staged::{EXISTS, Replacing, StagedFiles};
+use crate::output::Error;
 use crate::output::text::Shown;
-use crate::run::sources::{Films, sources};
+use crate::run::sources::Source;
 
 /// What every command that makes files of films takes.
 #[derive(Args)]
@@ -20,9 +21,15 @@ pub struct OutputOptions {
     #[arg(long, short, value_name = "DIR")]
     output: Option<PathBuf>,
     /// Replace files that are there
-    #[arg(long)]
+    #[arg(long, conflicts_with = "skip_existing")]
     force: bool,
-    /// Tell of errors alone
+    /// Leave a film out whose files are all there
+    #[arg(long)]
+    skip_existing: bool,
+    /// Do not wait until the files are on the disk
+    #[arg(long)]
+    no_sync: bool,
+    /// Print errors only
     #[arg(long, short)]
     pub quiet: bool,
 }
@@ -31,21 +38,46 @@ pub struct OutputOptions {
 pub struct Targets {
     folder: Option<PathBuf>,
     force: bool,
+    skip_existing: bool,
+    is_synced: bool,
     /// The films of this run.
-    films: HashSet<PathBuf>,
-    /// The files of this run, each with the film that it is of.
-    written: Mutex<HashMap<PathBuf, PathBuf>>,
+    films: HashSet<FileId>,
+    made: Mutex<Made>,
+}
+
+/// What this run makes.
+#[derive(Default)]
+struct Made {
+    /// The files that films have claimed, each with its film.
+    claimed: HashMap<PathBuf, PathBuf>,
+    /// The files that stand, each with its film.
+    written: HashMap<FileId, PathBuf>,
+}
+
+/// What is to be done for a film.
+#[derive(PartialEq, Debug)]
+pub enum Claim {
+    /// Its files are to be written.
+    Write,
+    /// They are all there.
+    Skip,
 }
 
 impl Targets {
     /// Of these films. The folder is made.
-    pub fn new(placing: &OutputOptions, films: &Films) -> Result<Targets, Error> {
-        let folder = placing.output.clone();
+    pub fn new(options: &OutputOptions, sources: &[Source]) -> Result<Targets, Error> {
+        let folder = options.output.clone();
         if let Some(folder) = &folder {
-            fs::create_dir_all(folder).map_err(|error| Error::with(folder, error))?;
+            make_folder(folder)?;
         }
-        let films = sources(&films.files).iter().filter_map(|film| film.label().canonicalize().ok()).collect();
-        Ok(Targets { folder, force: placing.force, films, written: Mutex::default() })
+        Ok(Targets {
+            folder,
+            force: options.force,
+            skip_existing: options.skip_existing,
+            is_synced: !options.no_sync,
+            films: sources.iter().filter_map(|source| source.id).collect(),
+            made: Mutex::default(),
+        })
     }
 
     /// Whether the files have a folder of their own.
@@ -59,33 +91,67 @@ impl Targets {
         self.folder.as_deref().unwrap_or(beside).join(name)
     }
 
-    /// None of the files may be there, unless by force.
-    pub fn check(&self, targets: &[PathBuf]) -> Result<(), Error> {
-        match targets.iter().find(|target| target.symlink_metadata().is_ok()) {
-            Some(target) if !self.force => Err(Error::with(target, EXISTS)),
-            _ => Ok(()),
-        }
-    }
-
-    /// Gives a film's files their names. Neither a film of this run nor a file that it wrote is replaced, even by force.
-    pub fn place(&self, label: &Path, pair: &StagedFiles, targets: &[PathBuf]) -> Result<(), Error> {
-        let mut written = self.written.lock().unwrap_or_else(PoisonError::into_inner);
+    /// Claims files for a film, before any of their bytes is written. None may be another's of this run, and none may be
+    /// there, unless by force.
+    pub fn claim(&self, label: &Path, targets: &[PathBuf]) -> Result<Claim, Error> {
+        let mut made = self.made();
         let mut places = Vec::new();
         for target in targets {
             let place = whole(target).map_err(|error| Error::with(target, error))?;
-            if let Some(other) = written.get(&place) {
-                let what = format!("this run wrote it for {}", Shown::path(other));
-                return Err(Error::with(target, what));
-            }
-            if self.films.contains(&place) {
-                return Err(Error::with(target, "it is a film of this run"));
+            if let Some(other) = made.claimed.get(&place) {
+                return Err(Error::with(target, format!("this run writes it for {}", Shown::path(other))));
             }
             places.push(place);
         }
-        pair.place(self.force)?;
-        written.extend(places.into_iter().map(|place| (place, label.to_path_buf())));
+        let there: Vec<&PathBuf> = targets.iter().filter(|target| target.symlink_metadata().is_ok()).collect();
+        for target in &there {
+            if target.symlink_metadata().is_ok_and(|metadata| self.films.contains(&FileId::of(&metadata))) {
+                return Err(Error::with(target, FILM));
+            }
+        }
+        if self.skip_existing && !targets.is_empty() && there.len() == targets.len() {
+            return Ok(Claim::Skip);
+        }
+        match there.first() {
+            Some(target) if !self.force => return Err(Error::with(target, EXISTS)),
+            _ => {}
+        }
+        made.claimed.extend(places.into_iter().map(|place| (place, label.to_path_buf())));
+        Ok(Claim::Write)
+    }
+
+    /// Files to be written.
+    pub fn staged(&self) -> StagedFiles {
+        StagedFiles::new(self.is_synced)
+    }
+
+    /// Gives a film's files their names. Neither a film of this run nor a file that it wrote is replaced, even by force.
+    pub fn place(&self, label: &Path, staged: StagedFiles) -> Result<(), Error> {
+        let is_kept = |id: FileId| match self.made().written.get(&id) {
+            Some(other) => Some(format!("this run wrote it for {}", Shown::path(other))),
+            None => self.films.contains(&id).then(|| FILM.to_string()),
+        };
+        let placed = staged.place(&Replacing { force: self.force, is_kept: &is_kept })?;
+        self.made().written.extend(placed.into_iter().map(|id| (id, label.to_path_buf())));
         Ok(())
     }
+
+    fn made(&self) -> MutexGuard<'_, Made> {
+        self.made.lock().unwrap_or_else(PoisonError::into_inner)
+    }
+}
+
+/// Said of a target that is one of the films.
+const FILM: &str = "it is a film of this run";
+
+fn make_folder(folder: &Path) -> Result<(), Error> {
+    if folder.as_os_str() == "-" {
+        return Err(Error::System("-o names a folder; ./- is one of that name".to_string()));
+    }
+    if fs::metadata(folder).is_ok_and(|there| !there.is_dir()) {
+        return Err(Error::with(folder, "it is a file, not a folder"));
+    }
+    fs::create_dir_all(folder).map_err(|error| Error::with(folder, error))
 }
 
 /// A file by the one name of its folder.

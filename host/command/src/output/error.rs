@@ -1,5 +1,6 @@
 //! What can go wrong, and the status that follows.
 
+use std::fmt::Display;
 use std::io;
 use std::path::Path;
 
@@ -18,7 +19,8 @@ pub enum Status {
     Failed = 2,
 }
 
-/// Why a film is not done.
+/// Why a film fails.
+#[derive(Debug)]
 pub enum Error {
     /// By the rules.
     Refused(Refusal),
@@ -30,8 +32,13 @@ pub enum Error {
 
 impl Error {
     /// What happened to a file.
-    pub fn with(path: &Path, error: impl std::fmt::Display) -> Error {
+    pub fn with(path: &Path, error: impl Display) -> Error {
         Error::System(format!("{}: {error}", Shown::path(path)))
+    }
+
+    /// What the system says.
+    pub fn io(error: io::Error) -> Error {
+        Error::System(error.to_string())
     }
 
     /// The same, of a file that is not named yet.
@@ -39,6 +46,14 @@ impl Error {
         match self {
             Error::System(what) => Error::with(path, what),
             error => error,
+        }
+    }
+
+    /// The same, and what went wrong besides.
+    pub fn and(self, more: &Error) -> Error {
+        match (self, more) {
+            (Error::System(what), Error::System(more)) => Error::System(format!("{what}; and {more}")),
+            (error, _) => error,
         }
     }
 
@@ -53,5 +68,14 @@ impl Error {
 impl From<Refusal> for Error {
     fn from(refusal: Refusal) -> Error {
         Error::Refused(refusal)
+    }
+}
+
+impl From<usm::Error> for Error {
+    fn from(error: usm::Error) -> Error {
+        match error {
+            usm::Error::Refused(refusal) => Error::Refused(refusal),
+            error => Error::System(error.to_string()),
+        }
     }
 }

@@ -1,11 +1,61 @@
 //! Objects for programs: one line of JSON each.
 
+use std::io::{self, Write};
 use std::path::Path;
 
 use serde::{Serialize, Serializer};
+use serde_json::ser::Formatter;
 
-use crate::output::error::Error;
-use crate::output::text::{Hex, Text};
+use crate::output::Error;
+use crate::output::text::{Hex, Text, is_plain};
+
+/// Writes an object. Every character that could move something on a terminal is escaped, which JSON allows for all.
+pub fn write(object: &impl Serialize, writer: impl Write) -> Result<(), serde_json::Error> {
+    object.serialize(&mut serde_json::Serializer::with_formatter(writer, Visible))
+}
+
+/// The bytes of an object as it would be written, or `None` where they are more than so many.
+pub fn size_within(object: &impl Serialize, most: u64) -> Option<u64> {
+    let mut counter = Counter { count: 0, most };
+    write(object, &mut counter).ok().map(|()| counter.count)
+}
+
+/// Compact, with what is not plain as `\u`.
+struct Visible;
+
+impl Formatter for Visible {
+    fn write_string_fragment<W: Write + ?Sized>(&mut self, writer: &mut W, fragment: &str) -> io::Result<()> {
+        let mut rest = fragment;
+        while let Some(at) = rest.find(|character| !is_plain(character)) {
+            let (plain, more) = rest.split_at(at);
+            writer.write_all(plain.as_bytes())?;
+            let mut characters = more.chars();
+            let mut units = [0; 2];
+            for unit in characters.next().unwrap_or_default().encode_utf16(&mut units) {
+                write!(writer, "\\u{unit:04x}")?;
+            }
+            rest = characters.as_str();
+        }
+        writer.write_all(rest.as_bytes())
+    }
+}
+
+/// Counts bytes, up to a most.
+struct Counter {
+    count: u64,
+    most: u64,
+}
+
+impl Write for Counter {
+    fn write(&mut self, bytes: &[u8]) -> io::Result<usize> {
+        self.count += bytes.len() as u64;
+        if self.count > self.most { Err(io::ErrorKind::FileTooLarge.into()) } else { Ok(bytes.len()) }
+    }
+
+    fn flush(&mut self) -> io::Result<()> {
+        Ok(())
+    }
+}
 
 /// A 64-bit number as a string: not every reader of JSON keeps all its digits.
 pub fn as_string<S: Serializer>(number: &usize, serializer: S) -> Result<S::Ok, S::Error> {
@@ -51,7 +101,7 @@ impl<'a> About<'a> {
     }
 }
 
-/// The object of a film that is not done.
+/// The object of a film that fails.
 #[derive(Serialize)]
 pub struct FailedFilm<'a> {
     #[serde(flatten)]
@@ -81,5 +131,26 @@ impl<'a> FailedFilm<'a> {
             Error::Output(_) => (None, None),
         };
         FailedFilm { about: About::new(path), refused, error }
+    }
+}
+
+#[cfg(test)]
+mod tests {
+    use super::{size_within, write};
+
+    #[test]
+    fn nothing_moves_a_terminal_and_the_value_stays() {
+        let text = "a\u{9b}2J\u{202e}\u{7f}\u{1b}\n\u{E0041}\"\\é漢";
+        let mut written = Vec::new();
+        write(&text, &mut written).unwrap();
+        let json = String::from_utf8(written).unwrap();
+        assert_eq!(json, r#""a\u009b2J\u202e\u007f\u001b\n\udb40\udc41\"\\é漢""#);
+        assert_eq!(serde_json::from_str::<String>(&json).unwrap(), text);
+    }
+
+    #[test]
+    fn a_size_is_counted_up_to_a_most() {
+        assert_eq!(size_within(&"abc", 5), Some(5));
+        assert_eq!(size_within(&"abc", 4), None);
     }
 }

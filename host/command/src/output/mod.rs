@@ -1,5 +1,6 @@
 //! What a run prints: standard output, every write of which is checked, and messages on standard error.
 
+pub mod csv;
 pub mod error;
 pub mod json;
 pub mod text;
@@ -7,11 +8,14 @@ pub mod text;
 pub use error::{Error, Status};
 
 use std::fs::File;
-use std::io::{self, BufWriter, ErrorKind, Write};
+use std::io::{self, BufWriter, ErrorKind, IsTerminal, Write};
 use std::os::fd::AsFd;
+use std::path::Path;
 
 use indicatif::ProgressBar;
 use serde::Serialize;
+
+use crate::output::text::Shown;
 
 /// Standard output.
 pub struct Output {
@@ -26,11 +30,6 @@ impl Output {
         Ok(Output { file: BufWriter::with_capacity(1 << 16, Aside { file, bar }), is_begun: false })
     }
 
-    /// Whether anything was written.
-    pub fn is_begun(&self) -> bool {
-        self.is_begun
-    }
-
     /// An empty line, but at the very beginning.
     pub fn gap(&mut self) -> Result<(), Error> {
         if self.is_begun { self.write_all(b"\n").map_err(Error::Output) } else { Ok(()) }
@@ -38,8 +37,13 @@ impl Output {
 
     /// Writes an object as one line.
     pub fn object(&mut self, object: &impl Serialize) -> Result<(), Error> {
-        serde_json::to_writer(&mut *self, object).map_err(|error| Error::Output(error.into()))?;
+        json::write(object, &mut *self).map_err(|error| Error::Output(error.into()))?;
         self.write_all(b"\n").map_err(Error::Output)
+    }
+
+    /// Whether a person may be looking at it.
+    pub fn is_terminal(&self) -> bool {
+        self.file.get_ref().file.is_terminal()
     }
 }
 
@@ -102,6 +106,11 @@ pub fn report_error(error: Error) -> Status {
 pub fn report(status: Status, what: &str) -> Status {
     writeln!(io::stderr(), "usm: {what}").ok();
     status
+}
+
+/// Prints a note about a file on standard error.
+pub fn note(path: &Path, what: &str) {
+    report(Status::Success, &format!("note: {}: {what}", Shown::path(path)));
 }
 
 /// Standard output can't be written. A reader that has gone needs no message.

@@ -24,6 +24,13 @@ impl Display for Text<'_> {
     }
 }
 
+impl Text<'_> {
+    /// Whether it is text without a wrong place.
+    fn is_whole(&self) -> bool {
+        std::str::from_utf8(self.0).is_ok() || is_shift_jis(self.0)
+    }
+}
+
 /// So many bytes are decoded at once: a name may be as long as a film.
 pub const PIECE: usize = 4096;
 
@@ -76,11 +83,34 @@ impl<'a> Shown<'a> {
     pub fn bytes(bytes: &'a [u8]) -> Shown<'a> {
         Shown(Text(bytes))
     }
+
+    /// The beginning of text that may be long, with .. where more follows.
+    pub fn cut(bytes: &'a [u8]) -> Cut<'a> {
+        Cut(bytes)
+    }
 }
 
 impl Display for Shown<'_> {
     fn fmt(&self, f: &mut fmt::Formatter) -> fmt::Result {
         write!(Visible(f), "{}", self.0)
+    }
+}
+
+/// So many bytes of a text are shown to a person.
+pub const CUT: usize = 200;
+
+/// The beginning of a text, for a terminal.
+pub struct Cut<'a>(&'a [u8]);
+
+impl Display for Cut<'_> {
+    fn fmt(&self, f: &mut fmt::Formatter) -> fmt::Result {
+        if self.0.len() <= CUT {
+            return Shown::bytes(self.0).fmt(f);
+        }
+        // A character that is cut in two is left out.
+        let is_text = |end: &usize| Text(&self.0[..*end]).is_whole() || !Text(self.0).is_whole();
+        let end = (CUT - 3..=CUT).rev().find(is_text).unwrap_or(CUT);
+        write!(f, "{}..", Shown::bytes(&self.0[..end]))
     }
 }
 
@@ -117,6 +147,14 @@ mod tests {
         let long = b"\x83\x81".repeat(5000);
         assert_eq!(Text(&long).to_string(), "メ".repeat(5000));
         assert_eq!(Hex(b"\0\xAB").to_string(), "00ab");
+    }
+
+    #[test]
+    fn long_text_is_cut() {
+        assert_eq!(Shown::cut(b"short").to_string(), "short");
+        assert_eq!(Shown::cut(&b"x".repeat(5000)).to_string(), format!("{}..", "x".repeat(200)));
+        assert_eq!(Shown::cut("é漢".repeat(100).as_bytes()).to_string(), format!("{}..", "é漢".repeat(40)));
+        assert_eq!(Shown::cut(&b"\x83\x81".repeat(500)).to_string(), format!("{}..", "メ".repeat(100)));
     }
 
     #[test]

@@ -1,6 +1,9 @@
 //! Running a command on many films: where they come from, the workers, and the progress.
 
+pub mod gate;
+pub mod input;
 pub mod progress;
 pub mod rewrite;
 pub mod sources;
+pub mod streams;
 pub mod workers;

@@ -14,6 +14,8 @@ use crate::output::report;
 const BEFORE_IT_SHOWS: Duration = Duration::from_secs(1);
 const WITH_TOTAL: &str = "{wide_bar} {bytes} of {total_bytes}, {bytes_per_sec}, {eta} left";
 const WITHOUT_TOTAL: &str = "{spinner} {bytes}, {bytes_per_sec}, {elapsed}";
+/// Bytes between two looks at the bar.
+const SHOWN: u64 = 1 << 20;
 const BETWEEN_DRAWS: Duration = Duration::from_millis(200);
 
 /// The progress of a run, in bytes of films.
@@ -76,6 +78,15 @@ pub struct Meter<'a> {
 impl<'a> Meter<'a> {
     pub fn new(progress: &'a Progress, steps: u64, length: u64) -> Meter<'a> {
         Meter { progress, steps, length, done: Cell::new(0) }
+    }
+
+    /// All steps together have come to a place of the film. Small moves are not shown.
+    pub fn reach(&self, place: usize) {
+        let moved = (place as u64).saturating_sub(self.done.get());
+        if moved >= SHOWN {
+            self.done.set(place as u64);
+            self.progress.bar.inc(moved);
+        }
     }
 
     /// A step has gone through so many more bytes.

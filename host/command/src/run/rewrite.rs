@@ -1,27 +1,26 @@
 //! Films made of films: what `salvage`, `from-old` and `to-old` share.
 
-use std::path::Path;
+use std::path::{Path, PathBuf};
 
 use serde::Serialize;
 use usm::Reason;
 
 use crate::files::names::stem;
-use crate::files::staged::StagedFiles;
-use crate::files::targets::{OutputOptions, Targets};
+use crate::files::targets::{Claim, OutputOptions, Targets};
 use crate::output::json::{About, AsHex, AsText, as_string};
 use crate::output::text::Shown;
-use crate::output::{Error, Status};
-use crate::output::{Output, print_to, report_error};
-use crate::run::sources::Films;
-use crate::run::workers::{self, Film, Task, Turn};
+use crate::output::{Error, Output, Status, print_to, report_error};
+use crate::run::sources::{Films, sources};
+use crate::run::workers::{self, Film, Task, Turn, WholeFilm};
 
 /// A way to make a film of a film.
 pub trait Rewrite: Sync {
-    /// What stands in front of the ending where the new film lies beside the other.
+    /// What stands in front of the ending where the new film lies beside the other. In folders, films with it are
+    /// passed over.
     const SUFFIX: &'static str;
 
-    /// The new film, which may lie in the room that is lent.
-    fn make<'b>(&self, film: &'b [u8], room: &'b mut Vec<u8>) -> Result<Rewritten<'b>, Error>;
+    /// The new film, which may lie in the room that is lent; `None` where there is nothing to write.
+    fn make<'b>(&self, film: &'b [u8], room: &'b mut Vec<u8>) -> Result<Option<Rewritten<'b>>, Error>;
 }
 
 /// A film that is made.
@@ -38,65 +37,104 @@ pub struct Dropped {
 }
 
 /// Makes a film of each.
-pub fn run(rewrite: impl Rewrite, films: &Films, placing: &OutputOptions) -> Status {
-    match Targets::new(placing, films) {
-        Ok(files) => workers::run(&Run { rewrite, files, json: films.json, quiet: placing.quiet }, films),
+pub fn run<R: Rewrite>(rewrite: R, films: &Films, options: &OutputOptions) -> Status {
+    let sources = match sources(&films.files, &films.options, R::SUFFIX) {
+        Ok(sources) => sources,
+        Err(error) => return report_error(error),
+    };
+    match Targets::new(options, &sources) {
+        Ok(targets) => {
+            let run = Run { rewrite, targets, json: films.options.json, quiet: options.quiet };
+            workers::run(&run, &sources, &films.options)
+        }
         Err(error) => report_error(error),
     }
 }
 
-struct Run<M> {
-    rewrite: M,
-    files: Targets,
+struct Run<R> {
+    rewrite: R,
+    targets: Targets,
     json: bool,
     quiet: bool,
 }
 
-impl<M: Rewrite> Task for Run<M> {
+/// What became of a film.
+enum Outcome {
+    Written { target: PathBuf, size: usize, dropped: Option<Dropped> },
+    Skipped(&'static str),
+}
+
+const THERE: &str = "its file is there";
+const WHOLE: &str = "the film is whole";
+
+impl<R: Rewrite> Task for Run<R> {
     const STEPS: u64 = 2;
 
     fn film<'a>(&'a self, film: Film<'a, '_>, turn: &Turn<'a, '_>) -> Result<(), Error> {
-        let Film { label, bytes, video: room, meter, .. } = film;
-        let made = self.rewrite.make(bytes, room)?;
-        let name = if self.files.have_folder() { stem(label) } else { format!("{}.{}", stem(label), M::SUFFIX) };
-        let targets = [self.files.target(label, &format!("{name}.usm"))];
-        self.files.check(&targets)?;
-        let mut pair = StagedFiles::default();
-        pair.write(targets[0].clone(), made.film, meter)?;
-        let (size, dropped) = (made.film.len(), made.dropped);
-        turn.finish_in_turn(move |output| {
-            self.files.place(label, &pair, &targets)?;
-            self.print(label, &targets[0], size, dropped, output)
-        });
+        let (label, meter) = (film.label, film.meter);
+        let target = self.target(label);
+        if turn.decide(|| self.targets.claim(label, std::slice::from_ref(&target)))? == Claim::Skip {
+            self.print_in_turn(label, Outcome::Skipped(THERE), turn);
+            return Ok(());
+        }
+        let WholeFilm { bytes, made } = film.read()?;
+        let Some(rewritten) = self.rewrite.make(bytes, made)? else {
+            self.print_in_turn(label, Outcome::Skipped(WHOLE), turn);
+            return Ok(());
+        };
+        let mut staged = self.targets.staged();
+        staged.write(target.clone(), rewritten.film)?;
+        meter.advance(rewritten.film.len() as u64);
+        self.targets.place(label, staged)?;
+        let outcome = Outcome::Written { target, size: rewritten.film.len(), dropped: rewritten.dropped };
+        self.print_in_turn(label, outcome, turn);
         Ok(())
     }
 }
 
-impl<M> Run<M> {
-    fn print(
-        &self,
-        label: &Path,
-        target: &Path,
-        size: usize,
-        dropped: Option<Dropped>,
-        output: &mut Output,
-    ) -> Result<(), Error> {
+impl<R: Rewrite> Run<R> {
+    fn target(&self, label: &Path) -> PathBuf {
+        let name = stem(label);
+        let name = if self.targets.have_folder() { name } else { format!("{name}.{}", R::SUFFIX) };
+        self.targets.target(label, &format!("{name}.usm"))
+    }
+
+    fn print_in_turn<'a>(&'a self, label: &'a Path, outcome: Outcome, turn: &Turn<'a, '_>) {
+        turn.finish_in_turn(move |output| self.print(label, &outcome, output));
+    }
+
+    fn print(&self, label: &Path, outcome: &Outcome, output: &mut Output) -> Result<(), Error> {
         if self.json {
-            return output.object(&Object::of(label, target, size, dropped));
+            return match outcome {
+                Outcome::Written { target, size, dropped } => {
+                    output.object(&Object::of(label, target, *size, *dropped))
+                }
+                Outcome::Skipped(why) => output.object(&Skipped { about: About::new(label), skipped: why }),
+            };
         }
         if self.quiet {
             return Ok(());
         }
         output.gap()?;
         print_to!(output, "{}\n", Shown::path(label));
-        print_to!(output, "written  {size} bytes: {}\n", Shown::path(target));
-        match dropped {
-            Some(Dropped { bytes, cause: Some(cause) }) => print_to!(output, "dropped  {bytes} bytes: {cause}\n"),
-            Some(Dropped { cause: None, .. }) => print_to!(output, "dropped  none: the film is accepted\n"),
-            None => {}
+        match outcome {
+            Outcome::Written { target, size, dropped } => print_written(target, *size, *dropped, output),
+            Outcome::Skipped(why) => {
+                print_to!(output, "skipped: {why}\n");
+                Ok(())
+            }
         }
-        Ok(())
     }
+}
+
+fn print_written(target: &Path, size: usize, dropped: Option<Dropped>, output: &mut Output) -> Result<(), Error> {
+    print_to!(output, "written  {size} bytes: {}\n", Shown::path(target));
+    match dropped {
+        Some(Dropped { bytes, cause: Some(cause) }) => print_to!(output, "dropped  {bytes} bytes: {cause}\n"),
+        Some(Dropped { cause: None, .. }) => print_to!(output, "dropped  none: the film is whole\n"),
+        None => {}
+    }
+    Ok(())
 }
 
 #[derive(Serialize)]
@@ -118,6 +156,14 @@ struct DroppedObject {
     /// The number of the refusal, 0 where there is none.
     cause: u8,
     reason: Option<String>,
+}
+
+/// The object of a film of which nothing is made.
+#[derive(Serialize)]
+struct Skipped<'a> {
+    #[serde(flatten)]
+    about: About<'a>,
+    skipped: &'a str,
 }
 
 impl<'a> Object<'a> {

@@ -1,16 +1,17 @@
-//! Which films a command works on, and how they are read.
+//! Which films a run works on: what the arguments name, each file once.
 
-use std::fs::{self, File};
-use std::io::{self, Read, Seek};
-use std::os::fd::AsFd;
-use std::os::unix::ffi::OsStrExt;
+use std::collections::HashMap;
+use std::ffi::OsStr;
+use std::fs::{self, FileType};
+use std::os::unix::fs::FileTypeExt;
 use std::path::{Path, PathBuf};
 
 use clap::Args;
-use usm::Refusal;
+use walkdir::{DirEntry, WalkDir};
 
-use crate::output::error::Error;
-use crate::run::progress::Meter;
+use crate::files::identity::FileId;
+use crate::output::text::Shown;
+use crate::output::{Error, note};
 
 /// What every command that works on films takes.
 #[derive(Args)]
@@ -18,186 +19,178 @@ pub struct Films {
     /// Films, folders of films, or - for standard input
     #[arg(value_name = "FILE", required = true)]
     pub files: Vec<PathBuf>,
-    /// Work on as many films at once as there are processors
-    #[arg(short)]
-    pub jobs: bool,
+    #[command(flatten)]
+    pub options: RunOptions,
+}
+
+/// How a run goes through its films.
+#[derive(Args)]
+pub struct RunOptions {
+    /// Work on N films at once; without a number, on as many as there are processors
+    #[arg(short, value_name = "N", num_args = 0..=1, require_equals = true, default_missing_value = "0")]
+    pub jobs: Option<usize>,
     /// Write a JSON object for each film, on a line of its own
     #[arg(long)]
     pub json: bool,
+    /// Follow links to files and folders that stand in a folder
+    #[arg(long)]
+    pub follow_links: bool,
+}
+
+impl Films {
+    pub fn sources(&self) -> Result<Vec<Source>, Error> {
+        sources(&self.files, &self.options, "")
+    }
 }
 
 /// A film to be read.
-pub enum Source {
-    File(PathBuf),
+pub struct Source {
+    /// The film's name in messages.
+    pub label: PathBuf,
+    pub origin: Origin,
+    /// Which file it is, where that is known before it is read.
+    pub id: Option<FileId>,
+    /// Its length, likewise.
+    pub length: Option<u64>,
+}
+
+/// Where a film comes from.
+#[derive(Clone, PartialEq)]
+pub enum Origin {
+    /// A path of the command line: whatever stands there.
+    Named,
+    /// A file found in a folder, which is a path of the command line. No link leads to it.
+    Below(PathBuf),
+    /// The same, with links followed.
+    Followed,
     StandardInput,
-    /// What was named can't be gone into.
-    Unreadable(PathBuf, String),
+    /// Nothing can be read, for this reason.
+    Unreadable(String),
 }
 
 impl Source {
-    /// What the film is called where it is spoken of.
-    pub fn label(&self) -> &Path {
-        match self {
-            Source::File(path) | Source::Unreadable(path, _) => path,
-            Source::StandardInput => Path::new("-"),
-        }
-    }
-
-    /// Its length, where that is known before it is read.
-    pub fn length(&self) -> Option<u64> {
-        match self {
-            Source::File(path) => fs::metadata(path).ok().filter(|metadata| metadata.is_file()).map(|file| file.len()),
-            Source::StandardInput => None,
-            Source::Unreadable(..) => Some(0),
-        }
-    }
-
-    /// All its bytes, in the place of what was in a buffer.
-    pub fn read(&self, bytes: &mut Vec<u8>, meter: &Meter) -> Result<(), Error> {
-        let file = match self {
-            Source::File(path) => File::open(path),
-            Source::StandardInput => io::stdin().as_fd().try_clone_to_owned().map(File::from),
-            Source::Unreadable(_, why) => return Err(Error::System(why.clone())),
+    fn new(label: PathBuf, origin: Origin) -> Source {
+        let metadata = match origin {
+            Origin::Named | Origin::Below(_) | Origin::Followed => fs::metadata(&label).ok(),
+            _ => None,
         };
-        file.map_err(system).and_then(|file| read_file(file, bytes, meter))
+        let file = metadata.filter(fs::Metadata::is_file);
+        let is_empty = matches!(origin, Origin::Unreadable(_));
+        let length = file.as_ref().map(fs::Metadata::len).or(is_empty.then_some(0));
+        Source { id: file.as_ref().map(FileId::of), length, label, origin }
+    }
+
+    /// A path of the command line, or standard input.
+    pub fn named(path: &Path) -> Source {
+        let origin = if path == Path::new("-") { Origin::StandardInput } else { Origin::Named };
+        Source::new(path.to_path_buf(), origin)
+    }
+
+    fn unreadable(path: &Path, why: impl ToString) -> Source {
+        Source::new(path.to_path_buf(), Origin::Unreadable(why.to_string()))
     }
 }
 
-fn system(error: io::Error) -> Error {
-    Error::System(error.to_string())
+/// The films that arguments name, in their order; those of a folder by their names. In a folder, names that contain
+/// `.SUFFIX.` are passed over: they are what the command itself has made.
+pub fn sources(files: &[PathBuf], options: &RunOptions, suffix: &str) -> Result<Vec<Source>, Error> {
+    if files.iter().filter(|file| file.as_os_str() == "-").count() > 1 {
+        return Err(Error::System("- stands twice, and standard input can be read once".to_string()));
+    }
+    let mut found = Vec::new();
+    for file in files {
+        if file.is_dir() {
+            add_folder(file, options, suffix, &mut found);
+        } else {
+            found.push(Source::named(file));
+        }
+    }
+    Ok(each_once(found))
 }
 
-/// The films that arguments name, in their order; those of a folder by their names.
-pub fn sources(files: &[PathBuf]) -> Vec<Source> {
-    let mut sources = Vec::new();
-    for file in files {
-        if file.as_os_str() == "-" {
-            sources.push(Source::StandardInput);
-        } else if file.is_dir() {
-            let before = sources.len();
-            add_folder(file, &mut sources);
-            if sources.len() == before {
-                sources.push(Source::Unreadable(file.clone(), "no file in it ends in .usm".to_string()));
+/// Leaves out every file that stands in the list already, under whatever name.
+fn each_once(found: Vec<Source>) -> Vec<Source> {
+    let mut seen: HashMap<FileId, PathBuf> = HashMap::new();
+    let mut sources = Vec::with_capacity(found.len());
+    for source in found {
+        match source.id.and_then(|id| seen.get(&id)) {
+            Some(other) => note(&source.label, &format!("passed over: it is the same file as {}", Shown::path(other))),
+            None => {
+                seen.extend(source.id.map(|id| (id, source.label.clone())));
+                sources.push(source);
             }
-        } else {
-            sources.push(Source::File(file.clone()));
         }
     }
     sources
 }
 
-/// The films in a folder and in the folders in it. Links to folders are not followed.
-fn add_folder(folder: &Path, sources: &mut Vec<Source>) {
-    let entries = match fs::read_dir(folder).and_then(Iterator::collect::<io::Result<Vec<_>>>) {
-        Ok(entries) => entries,
-        Err(error) => return sources.push(Source::Unreadable(folder.to_path_buf(), error.to_string())),
-    };
-    let mut paths: Vec<PathBuf> = entries.iter().map(fs::DirEntry::path).collect();
-    paths.sort();
-    for path in paths {
-        if path.is_dir() {
-            if !path.is_symlink() {
-                add_folder(&path, sources);
+/// The films in a folder and in the folders in it. Hidden files and folders are passed over.
+fn add_folder(folder: &Path, options: &RunOptions, suffix: &str, sources: &mut Vec<Source>) {
+    let before = sources.len();
+    let is_visible = |entry: &DirEntry| entry.depth() == 0 || !entry.file_name().as_encoded_bytes().starts_with(b".");
+    let walk = WalkDir::new(folder).follow_links(options.follow_links).sort_by_file_name();
+    for entry in walk.into_iter().filter_entry(is_visible) {
+        match entry {
+            Ok(entry) => sources.extend(film_in(folder, &entry, options, suffix)),
+            Err(error) => {
+                let path = error.path().unwrap_or(folder).to_path_buf();
+                let why = error.io_error().map_or_else(|| error.to_string(), ToString::to_string);
+                sources.push(Source::unreadable(&path, why));
             }
-        } else if ends_in_usm(&path) {
-            sources.push(Source::File(path));
         }
+    }
+    if sources.len() == before {
+        sources.push(Source::unreadable(folder, "no file in it ends in .usm"));
+    }
+}
+
+/// An entry of a folder, where it is a film by its name. What is no file is passed over: to open it could wait for ever.
+fn film_in(folder: &Path, entry: &DirEntry, options: &RunOptions, suffix: &str) -> Option<Source> {
+    let path = entry.path();
+    if entry.file_type().is_dir() || !ends_in_usm(path) || is_made(entry.file_name(), suffix) {
+        return None;
+    }
+    if !entry.file_type().is_file() {
+        note(path, &format!("passed over: it is {}", kind(entry.file_type())));
+        return None;
+    }
+    let origin = if options.follow_links { Origin::Followed } else { Origin::Below(folder.to_path_buf()) };
+    Some(Source::new(path.to_path_buf(), origin))
+}
+
+fn kind(file_type: FileType) -> &'static str {
+    if file_type.is_symlink() {
+        "a link, and --follow-links is not given"
+    } else if file_type.is_fifo() {
+        "a pipe, not a file"
+    } else if file_type.is_socket() {
+        "a socket, not a file"
+    } else {
+        "a device, not a file"
     }
 }
 
 fn ends_in_usm(path: &Path) -> bool {
-    path.extension().is_some_and(|ending| ending.as_bytes().eq_ignore_ascii_case(b"usm"))
+    path.extension().is_some_and(|ending| ending.as_encoded_bytes().eq_ignore_ascii_case(b"usm"))
 }
 
-/// So much of a file is read between two looks at the meter.
-const PIECE: u64 = 4 << 20;
-
-/// The same of a pipe, which may be slow.
-const PIPE_PIECE: u64 = 1 << 16;
-
-/// Room for what a pipe gives grows by so much.
-const GROWTH: usize = 16 << 20;
-
-fn read_file(mut file: File, bytes: &mut Vec<u8>, meter: &Meter) -> Result<(), Error> {
-    let metadata = file.metadata().map_err(system)?;
-    if !metadata.is_file() {
-        return read_unknown(&mut file, bytes, meter);
-    }
-    let start = file.stream_position().map_err(system)?;
-    read_known(&mut file, metadata.len().saturating_sub(start), bytes, meter)
+/// Whether a command has made a file, by the suffix that it gives to names: `song.salvaged.usm`.
+fn is_made(name: &OsStr, suffix: &str) -> bool {
+    !suffix.is_empty()
+        && name.as_encoded_bytes().split(|&byte| byte == b'.').skip(1).any(|part| part == suffix.as_bytes())
 }
 
-/// Reads a file whose length is known. It is refused by its length before it is read.
-fn read_known(file: &mut File, length: u64, bytes: &mut Vec<u8>, meter: &Meter) -> Result<(), Error> {
-    Refusal::by_length(length)?;
-    make_room(bytes, length as usize)?;
-    while (bytes.len() as u64) < length {
-        let piece = PIECE.min(length - bytes.len() as u64);
-        if read_piece(file, piece, bytes, meter)? == 0 {
-            let left = bytes.len();
-            return Err(Error::System(format!("it shrank while it was read: {left} of {length} bytes are left")));
-        }
-    }
-    match file.read(&mut [0]).map_err(system)? {
-        0 => Ok(()),
-        _ => Err(Error::System(format!("it grew while it was read: it had {length} bytes"))),
-    }
-}
+#[cfg(test)]
+mod tests {
+    use super::is_made;
 
-/// Reads a pipe or the like to its end, or to the first byte that is too many.
-fn read_unknown(file: &mut File, bytes: &mut Vec<u8>, meter: &Meter) -> Result<(), Error> {
-    bytes.clear();
-    loop {
-        if bytes.len() == bytes.capacity() {
-            bytes.try_reserve_exact(GROWTH).map_err(|_| no_memory(bytes.len() + GROWTH))?;
-        }
-        let room = (bytes.capacity() - bytes.len()) as u64;
-        if read_piece(file, room.min(PIPE_PIECE), bytes, meter)? == 0 {
-            return Ok(());
-        }
-        Refusal::by_length(bytes.len() as u64)?;
-    }
-}
-
-/// Reads up to so many bytes, for which there is room.
-fn read_piece(file: &mut File, most: u64, bytes: &mut Vec<u8>, meter: &Meter) -> Result<usize, Error> {
-    let read = file.take(most).read_to_end(bytes).map_err(system)?;
-    meter.advance(read as u64);
-    Ok(read)
-}
-
-/// Empties a buffer and makes room in it, for exactly so many bytes where it has less.
-pub fn make_room(bytes: &mut Vec<u8>, size: usize) -> Result<(), Error> {
-    bytes.clear();
-    if bytes.capacity() < size {
-        *bytes = Vec::new();
-        bytes.try_reserve_exact(size).map_err(|_| no_memory(size))?;
-    }
-    Ok(())
-}
-
-fn no_memory(size: usize) -> Error {
-    Error::System(format!("no memory for {size} bytes"))
-}
-
-/// What a worker needs memory for. It goes from film to film, so that small films cost no new memory each.
-#[derive(Default)]
-pub struct Buffers {
-    pub film: Vec<u8>,
-    pub video: Vec<u8>,
-    pub audio: Vec<u8>,
-}
-
-/// A buffer that is larger is not kept.
-const KEPT: usize = 16 << 20;
-
-impl Buffers {
-    /// Gives back what is large.
-    pub fn shrink(&mut self) {
-        for buffer in [&mut self.film, &mut self.video, &mut self.audio] {
-            if buffer.capacity() > KEPT {
-                *buffer = Vec::new();
-            }
-        }
+    #[test]
+    fn what_a_command_makes() {
+        assert!(is_made("song.salvaged.usm".as_ref(), "salvaged"));
+        assert!(is_made("song.moved.old.usm".as_ref(), "moved"));
+        assert!(!is_made("song.moved.usm".as_ref(), "old"));
+        assert!(!is_made("salvagedsong.usm".as_ref(), "salvaged"));
+        assert!(!is_made("old.usm".as_ref(), "old"));
+        assert!(!is_made("a..usm".as_ref(), ""));
     }
 }

@@ -1,5 +1,4 @@
-//! Several films at once; what is printed comes in the order of the arguments, whoever is done
-//! first.
+//! Several films at once. Each is done as soon as it can be; what is printed comes in the order of the arguments.
 
 use std::cell::Cell;
 use std::collections::BTreeMap;
@@ -12,10 +11,11 @@ use std::thread;
 
 use crate::output::json::FailedFilm;
 use crate::output::text::Shown;
-use crate::output::{self, Output};
-use crate::output::{Error, Status};
+use crate::output::{self, Error, Output, Status};
+use crate::run::gate::Gate;
+use crate::run::input::{Buffers, Input};
 use crate::run::progress::{Meter, Progress};
-use crate::run::sources::{Buffers, Films, Source, sources};
+use crate::run::sources::{RunOptions, Source};
 
 /// What a command does with a film.
 pub trait Task: Sync {
@@ -30,27 +30,45 @@ pub trait Task: Sync {
     /// Works on a film, and prints in its turn.
     fn film<'a>(&'a self, film: Film<'a, '_>, turn: &Turn<'a, '_>) -> Result<(), Error>;
 
+    /// Prints that a film fails, where the command's output says so. An error goes to standard error in any case.
+    fn failed(&self, _label: &Path, _error: &Error, _output: &mut Output) -> Result<(), Error> {
+        Ok(())
+    }
+
     /// Prints what comes after all films.
     fn end(&self, _output: &mut Output) -> Result<(), Error> {
         Ok(())
     }
 }
 
-/// A film that is read.
+/// A film that is open.
 pub struct Film<'a, 'b> {
     /// What it is called where it is spoken of.
     pub label: &'a Path,
-    pub bytes: &'b [u8],
-    /// Room for its streams.
-    pub video: &'b mut Vec<u8>,
-    pub audio: &'b mut Vec<u8>,
+    pub input: &'b mut Input,
+    pub buffers: &'b mut Buffers,
     pub meter: &'b Meter<'b>,
 }
 
+/// A film that is read whole.
+pub struct WholeFilm<'b> {
+    pub bytes: &'b [u8],
+    /// Room for what is made of it.
+    pub made: &'b mut Vec<u8>,
+}
+
+impl<'b> Film<'_, 'b> {
+    /// Reads the film into memory.
+    pub fn read(self) -> Result<WholeFilm<'b>, Error> {
+        let Buffers { film, made } = self.buffers;
+        self.input.read_all(film, self.meter)?;
+        Ok(WholeFilm { bytes: film, made })
+    }
+}
+
 /// Runs a task on films.
-pub fn run(task: &impl Task, films: &Films) -> Status {
-    let sources = sources(&films.files);
-    let progress = Progress::new(sources.iter().map(Source::length).sum());
+pub fn run(task: &impl Task, sources: &[Source], options: &RunOptions) -> Status {
+    let progress = Progress::new(sources.iter().map(|source| source.length).sum());
     let begun = Output::new(progress.bar()).map_err(Error::Output).and_then(|mut output| {
         task.begin(&mut output)?;
         output.flush().map_err(Error::Output)?;
@@ -61,18 +79,23 @@ pub fn run(task: &impl Task, films: &Films) -> Status {
         Err(error) => return output::report_error(error),
     };
     let shared = Shared { turn: 0, output, status: Status::Success, is_closed: false, finishing: BTreeMap::new() };
-    let workers = Workers { shared: Mutex::new(shared), moved: Condvar::new(), progress, json: films.json };
+    let workers = Workers {
+        shared: Mutex::new(shared),
+        moved: Condvar::new(),
+        gate: Gate::default(),
+        progress,
+        json: options.json,
+    };
     let next = AtomicUsize::new(0);
     let work = || {
         let mut buffers = Buffers::default();
-        while let Some((number, source)) = take(&next, &sources) {
+        while let Some((number, source)) = take(&next, sources) {
             workers.work(task, number, source, &mut buffers);
             buffers.shrink();
         }
     };
-    let threads = if films.jobs { thread::available_parallelism().map_or(1, usize::from) } else { 1 };
     thread::scope(|scope| {
-        for _ in 1..threads.min(sources.len()) {
+        for _ in 1..options.workers().min(sources.len()) {
             // Where there is no thread to be had, those that there are do the work.
             thread::Builder::new().spawn_scoped(scope, work).ok();
         }
@@ -90,6 +113,17 @@ pub fn run(task: &impl Task, films: &Films) -> Status {
     }
 }
 
+impl RunOptions {
+    /// How many work at once.
+    fn workers(&self) -> usize {
+        match self.jobs {
+            None => 1,
+            Some(0) => thread::available_parallelism().map_or(1, usize::from),
+            Some(jobs) => jobs,
+        }
+    }
+}
+
 fn take<'a>(next: &AtomicUsize, sources: &'a [Source]) -> Option<(usize, &'a Source)> {
     let number = next.fetch_add(1, Ordering::Relaxed);
     sources.get(number).map(|source| (number, source))
@@ -98,6 +132,7 @@ fn take<'a>(next: &AtomicUsize, sources: &'a [Source]) -> Option<(usize, &'a Sou
 struct Workers<'a> {
     shared: Mutex<Shared<'a>>,
     moved: Condvar,
+    gate: Gate,
     progress: Progress,
     json: bool,
 }
@@ -110,22 +145,29 @@ struct Shared<'a> {
     status: Status,
     /// Standard output can't be written any more.
     is_closed: bool,
-    /// What is left to do of films that were done before their turn came.
+    /// What is left to print of films that were done before their turn came.
     finishing: BTreeMap<usize, (&'a Path, Rest<'a>)>,
 }
 
-/// What is left to do of a film in its turn: little, and nothing that holds the film.
+/// What is left to print of a film in its turn: little, and nothing that holds the film.
 type Rest<'a> = Box<dyn FnOnce(&mut Output) -> Result<(), Error> + Send + 'a>;
 
 impl<'a> Workers<'a> {
-    fn work(&self, task: &'a impl Task, number: usize, source: &'a Source, buffers: &mut Buffers) {
+    fn work<T: Task>(&self, task: &'a T, number: usize, source: &'a Source, buffers: &mut Buffers) {
+        // What is no file may keep everybody waiting, so that nobody waits for it at the gate.
+        if source.id.is_none() {
+            self.gate.leave(number);
+        }
         if self.lock().is_closed {
+            self.gate.leave(number);
             return self.pass(number);
         }
-        let turn = Turn { workers: self, number, label: source.label(), is_over: Cell::new(false) };
+        let turn = Turn { workers: self, number, label: &source.label, is_over: Cell::new(false) };
         if let Err(error) = turn.film(task, source, buffers) {
-            turn.take().fail(source.label(), error);
+            self.gate.leave(number);
+            turn.take().fail(task, &source.label, error);
         }
+        self.gate.leave(number);
     }
 
     fn lock(&self) -> MutexGuard<'_, Shared<'a>> {
@@ -141,7 +183,7 @@ impl<'a> Workers<'a> {
         Printer { workers: self, shared }
     }
 
-    /// Ends the turn of a film, and does what was handed over by those after it.
+    /// Ends the turn of a film, and prints what is left of those after it.
     fn pass(&self, number: usize) {
         let mut printer = self.wait(number);
         printer.shared.turn += 1;
@@ -155,7 +197,7 @@ impl<'a> Workers<'a> {
     }
 }
 
-/// A film's turn. It is over when this is dropped, or when the rest is handed over.
+/// A film's turn. It is over when this is dropped, or when the rest is left to others.
 pub struct Turn<'a, 'c> {
     workers: &'c Workers<'a>,
     number: usize,
@@ -165,12 +207,24 @@ pub struct Turn<'a, 'c> {
 
 impl<'a> Turn<'a, '_> {
     fn film<T: Task>(&self, task: &'a T, source: &'a Source, buffers: &mut Buffers) -> Result<(), Error> {
-        let meter = Meter::new(&self.workers.progress, T::STEPS, source.length().unwrap_or(0));
-        source.read(&mut buffers.film, &meter)?;
-        let Buffers { film, video, audio } = buffers;
-        let film = Film { label: self.label, bytes: film, video, audio, meter: &meter };
-        task.film(film, self)?;
+        let meter = Meter::new(&self.workers.progress, T::STEPS, source.length.unwrap_or(0));
+        let mut input = source.open()?;
+        let done = task.film(Film { label: self.label, input: &mut input, buffers, meter: &meter }, self);
+        if let Err(Error::Refused(_)) = done {
+            // A film that is still being written is no refused film.
+            input.check_end()?;
+        }
+        done?;
         if self.is_over.get() { Ok(()) } else { self.take().flush().map_err(Error::Output) }
+    }
+
+    /// Decides something in the order of the films, without waiting for them to be done: those before this one have
+    /// decided theirs, or have nothing to decide.
+    pub fn decide<R>(&self, decision: impl FnOnce() -> R) -> R {
+        self.workers.gate.wait(self.number);
+        let decided = decision();
+        self.workers.gate.leave(self.number);
+        decided
     }
 
     /// Waits for the turn, and gives what may be used then.
@@ -178,7 +232,7 @@ impl<'a> Turn<'a, '_> {
         self.workers.wait(self.number)
     }
 
-    /// Does the rest of a film in its turn, without waiting for it: whoever ends the turn before does it then.
+    /// Prints the rest of a film in its turn, without waiting for it: whoever ends the turn before does it then.
     pub fn finish_in_turn(&self, rest: impl FnOnce(&mut Output) -> Result<(), Error> + Send + 'a) {
         self.is_over.set(true);
         let mut shared = self.workers.lock();
@@ -216,43 +270,54 @@ impl<'a> Printer<'a, '_> {
         self.shared.status = self.shared.status.max(status);
     }
 
-    /// Does the rest of a film.
+    /// Prints the rest of a film, of which nothing but the printing can fail.
     fn finish(&mut self, label: &Path, rest: Rest<'a>) {
         if self.shared.is_closed {
             return;
         }
         let output = &mut self.shared.output;
-        if let Err(error) = rest(output).and_then(|()| output.flush().map_err(Error::Output)) {
-            self.fail(label, error);
+        match rest(output).and_then(|()| output.flush().map_err(Error::Output)) {
+            Ok(()) => {}
+            Err(Error::Output(error)) => self.close(error),
+            Err(error) => self.report(label, &error),
         }
     }
 
     /// Prints why a film fails.
-    fn fail(&mut self, label: &Path, error: Error) {
-        self.raise(error.status());
-        let error = match self.report(label, error) {
-            Ok(()) => return,
-            Err(error) => error,
-        };
-        if let Error::Output(error) = error
-            && !self.shared.is_closed
-        {
-            self.shared.is_closed = true;
-            self.raise(output::failed(error));
+    fn fail(&mut self, task: &impl Task, label: &Path, error: Error) {
+        if let Error::Output(error) = error {
+            return self.close(error);
+        }
+        self.report(label, &error);
+        if let Err(Error::Output(error)) = self.print_failure(task, label, &error) {
+            self.close(error);
         }
     }
 
-    fn report(&mut self, label: &Path, error: Error) -> Result<(), Error> {
-        match &error {
+    fn print_failure(&mut self, task: &impl Task, label: &Path, error: &Error) -> Result<(), Error> {
+        let output = &mut self.shared.output;
+        if self.workers.json {
+            output.object(&FailedFilm::new(label, error))?;
+        }
+        task.failed(label, error, output)?;
+        output.flush().map_err(Error::Output)
+    }
+
+    fn report(&mut self, label: &Path, error: &Error) {
+        self.raise(error.status());
+        match error {
             Error::Refused(refusal) => self.note(label, &refusal.to_string()),
             Error::System(what) => self.note(label, what),
-            Error::Output(_) => return Err(error),
+            Error::Output(_) => {}
         }
-        if self.workers.json {
-            self.shared.output.object(&FailedFilm::new(label, &error))?;
-            self.shared.output.flush().map_err(Error::Output)?;
+    }
+
+    /// Standard output can't be written any more: the run ends.
+    fn close(&mut self, error: std::io::Error) {
+        if !self.shared.is_closed {
+            self.shared.is_closed = true;
+            self.raise(output::failed(error));
         }
-        Ok(())
     }
 }
 

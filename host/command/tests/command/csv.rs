@@ -56,9 +56,46 @@ fn a_table_that_makes_too_much() {
     folder.write("table", &table);
     let run = folder.usm(&["csv", "--at", "0", "table"]);
     assert_eq!((run.status, run.out.as_str()), (2, ""));
-    assert!(run.err.ends_with("bytes of CSV, and 1073741824 is the most\n"), "{}", run.err);
-    assert_eq!(folder.usm(&["table", "--at", "0", "--csv", "table"]).status, 2);
+    let much = "usm: table: it makes more than 67108864 bytes of text, which is the limit; --limit sets another\n";
+    assert_eq!(run.err, much);
+    folder.usm(&["table", "--at", "0", "--csv", "table"]).expect(2, "", much);
+    let run = folder.usm(&["table", "--at", "0", "--json", "table"]);
+    assert_eq!((run.status, run.err.as_str(), run.out.lines().count()), (2, much, 1));
     assert_eq!(folder.names(), ["table"]);
+    // For a person texts are cut.
+    let run = folder.usm(&["table", "--at", "0", "table"]);
+    assert!(run.status == 0 && run.out.len() < 8_000_000, "{} {}", run.status, run.out.len());
+    assert!(run.out.contains("xx..\" 66000 bytes\n"), "{}", &run.out[..500]);
+    let run = folder.usm(&["csv", "--at", "0", "--limit", "1K", "table"]);
+    assert!(run.err.contains("more than 1024 bytes"), "{}", run.err);
+}
+
+#[test]
+fn formulas_are_texts_for_spreadsheets() {
+    let folder = Folder::new();
+    folder.write("table", &films::table(&[b"=a", b"c"], &[&[Value::SignedByte(-1), Value::Text(b"@x")]]));
+    folder.usm(&["csv", "-q", "--at", "0", "table"]).expect(0, "", "");
+    assert_eq!(folder.read("table.0.csv"), b"=a,c\r\n-1,@x\r\n", "exact");
+    folder.usm(&["csv", "-q", "--at", "0", "--force", "--spreadsheet", "table"]).expect(0, "", "");
+    assert_eq!(folder.read("table.0.csv"), b"'=a,c\r\n-1,'@x\r\n");
+    folder.usm(&["table", "--at", "0", "--csv", "--spreadsheet", "table"]).expect(0, "'=a,c\r\n-1,'@x\r\n", "");
+}
+
+#[test]
+fn columns_that_store_nothing() {
+    let folder = Folder::new();
+    let mut table = films::table(&[b"a", b"b"], &[&[Value::Number(7), Value::Number(7)]]);
+    table[32] = 0x14;
+    folder.write("table", &table);
+    let original = "a,b\r\n7,7\r\n";
+    folder.usm(&["table", "--at", "0", "--csv", "table"]).expect(0, original, "");
+    folder.usm(&["table", "--at", "0", "--csv", "--tables", "zero-columns", "table"]).expect(0, "a,b\r\n0,7\r\n", "");
+    folder.usm(&["csv", "-q", "--at", "0", "--tables", "zero-columns", "table"]).expect(0, "", "");
+    assert_eq!(folder.read("table.0.csv"), b"a,b\r\n0,7\r\n");
+    table[32] = 0x24;
+    folder.write("table", &table);
+    let unknown = "usm: table: refused 18 at 0: unknown storage of a column\n";
+    folder.usm(&["table", "--at", "0", "--tables", "zero-columns", "table"]).expect(1, "", unknown);
 }
 
 #[test]

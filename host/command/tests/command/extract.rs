@@ -116,8 +116,9 @@ fn a_link_that_leads_nowhere_is_there_too() {
     std::os::unix::fs::symlink("elsewhere", folder.path("lark.adx")).unwrap();
     assert_eq!(folder.usm(&["extract", "song.usm"]).status, 2);
     assert!(!folder.path("elsewhere").exists() && !folder.path("lark.m2v").exists());
-    assert_eq!(folder.usm(&["extract", "song.usm", "--force"]).status, 0);
-    assert!(!folder.path("elsewhere").exists(), "the link is replaced, not followed");
+    let run = folder.usm(&["extract", "song.usm", "--force"]);
+    run.expect(2, "", "usm: song.usm: ./lark.adx: it is no regular file, and --force replaces no others\n");
+    assert!(!folder.path("elsewhere").exists() && !folder.path("lark.m2v").exists());
 }
 
 #[test]
@@ -127,7 +128,7 @@ fn a_second_file_that_fails_undoes_the_first() {
     fs::create_dir(folder.path("lark.adx")).unwrap();
     let before = folder.names();
     let run = folder.usm(&["extract", "song.usm", "--force"]);
-    run.expect(2, "", "usm: song.usm: ./lark.adx: is a directory\n");
+    run.expect(2, "", "usm: song.usm: ./lark.adx: it is no regular file, and --force replaces no others\n");
     assert_eq!(folder.read("lark.m2v"), b"mine", "what was replaced is back");
     assert_eq!(folder.names(), before);
     fs::remove_file(folder.path("lark.m2v")).unwrap();
@@ -142,7 +143,7 @@ fn two_films_with_one_name() {
     folder.write("a.usm", &named(b"lark", &first, b"one"));
     folder.write("b.usm", &named(b"x/lark.usm", b"second", b"two"));
     let run = folder.usm(&["extract", "a.usm", "b.usm", "--quiet"]);
-    run.expect(2, "", "usm: b.usm: ./lark.m2v: the file is there already; --force replaces it\n");
+    run.expect(2, "", "usm: b.usm: ./lark.m2v: this run writes it for a.usm\n");
     assert_eq!((folder.read("lark.m2v"), folder.read("lark.hca")), (first.clone(), b"one".to_vec()));
     for words in
         [&["extract", "a.usm", "b.usm", "--quiet", "--force"][..], &["extract", "-j", "--force", "--quiet", "."]]
@@ -150,7 +151,7 @@ fn two_films_with_one_name() {
         let run = folder.usm(words);
         let film = if words.contains(&".") { "./b.usm" } else { "b.usm" };
         let other = if words.contains(&".") { "./a.usm" } else { "a.usm" };
-        run.expect(2, "", &format!("usm: {film}: ./lark.m2v: this run wrote it for {other}\n"));
+        run.expect(2, "", &format!("usm: {film}: ./lark.m2v: this run writes it for {other}\n"));
         assert_eq!((folder.read("lark.m2v"), folder.read("lark.hca")), (first.clone(), b"one".to_vec()));
     }
     assert_eq!(folder.names(), ["a.usm", "b.usm", "lark.hca", "lark.m2v"]);

@@ -3,6 +3,7 @@
 mod csv;
 mod extract;
 mod help;
+mod hostile;
 mod info;
 mod input;
 mod keys;

@@ -1,4 +1,5 @@
-//! Memory: the film, its streams, 24 bytes a chunk where chunks are listed, and 64 MiB; where there is less, an error.
+//! Memory: a window and the longest masked payload where a film is read piece by piece, its length where it is read
+//! whole; where there is less, an error.
 
 use films::{Film, Header};
 
@@ -12,23 +13,72 @@ fn with_memory(folder: &Folder, bytes: usize, words: &str) -> (i32, String) {
     (run.status, run.err)
 }
 
+/// What a film takes that is read piece by piece, whatever its length.
+const WINDOW: usize = 24 * MIB;
+
 #[test]
-fn an_extraction_takes_film_and_streams() {
+fn films_that_are_read_piece_by_piece_take_a_window() {
     let folder = Folder::new();
     let film = films::large(b"large", 200 * MIB);
     folder.write("large.usm", &film);
-    let streams = usm::sizes(&film, usm::Reading::default()).unwrap().iter().sum::<usize>();
-    let most = film.len() + streams + 64 * MIB;
-    assert_eq!(with_memory(&folder, most, "extract large.usm -k 1"), (0, String::new()));
-    assert_eq!(with_memory(&folder, most, "extract --force - < large.usm"), (0, String::new()));
-    assert_eq!(with_memory(&folder, film.len() + 64 * MIB, "info large.usm"), (0, String::new()));
-    assert_eq!(with_memory(&folder, film.len() + 64 * MIB, "table large.usm"), (0, String::new()));
-    // With less there is an error, and no more.
-    let (status, err) = with_memory(&folder, film.len() + streams / 2, "extract --force large.usm");
-    assert_eq!(status, 2);
-    assert!(err.starts_with("usm: large.usm: no memory for "), "{err}");
-    let (status, err) = with_memory(&folder, film.len() / 2, "info large.usm");
-    assert_eq!((status, err), (2, format!("usm: large.usm: no memory for {} bytes\n", film.len())));
+    for words in [
+        "extract large.usm -k 1",
+        "extract --force large.usm",
+        "extract --force -k 1 - < large.usm",
+        "info large.usm",
+        "list large.usm",
+        "list --csv large.usm",
+        "list --json large.usm",
+        "keys 1 2 large.usm",
+        "keys 1 1 large.usm",
+    ] {
+        assert_eq!(with_memory(&folder, WINDOW, words), (0, String::new()), "{words}");
+    }
+}
+
+#[test]
+fn a_masked_payload_takes_its_length() {
+    let folder = Folder::new();
+    let mut film = Film::new(&Header::default());
+    let payload = vec![7; 100 * MIB];
+    film.chunk(b"@SFV", 0, 0, &payload);
+    film.chunk(b"@SFV", 0, 1, &payload);
+    folder.write("film.usm", &film.bytes);
+    folder.write("small.usm", &films::f());
+    assert_eq!(with_memory(&folder, WINDOW, "extract film.usm"), (0, String::new()), "as stored it goes by pieces");
+    assert_eq!(with_memory(&folder, 100 * MIB + WINDOW, "extract --force -k 1 film.usm"), (0, String::new()));
+    let (status, err) = with_memory(&folder, 90 * MIB, "extract --force -k 1 film.usm small.usm");
+    assert_eq!((status, err), (2, format!("usm: film.usm: no memory for {} bytes\n", payload.len())));
+    assert!(folder.path("small.m2v").exists(), "the others go on");
+}
+
+/// Commands that read a film whole.
+#[test]
+fn films_that_are_read_whole_take_their_length() {
+    let folder = Folder::new();
+    let film = films::large(b"large", 200 * MIB);
+    folder.write("large.usm", &film);
+    folder.write("small.usm", &films::f());
+    for words in ["table large.usm", "profile large.usm", "statement <(echo 1,2) large.usm"] {
+        assert_eq!(with_memory(&folder, film.len() + 64 * MIB, words), (0, String::new()), "{words}");
+        let (status, err) = with_memory(&folder, film.len() / 2, &format!("{words} small.usm"));
+        assert_eq!((status, err), (2, format!("usm: large.usm: no memory for {} bytes\n", film.len())));
+    }
+}
+
+/// A table of the header that runs over later blocks is no reason to unpack the film.
+#[test]
+fn a_table_that_reaches_over_the_chunks() {
+    let folder = Folder::new();
+    let mut film = Film::new(&Header::default());
+    film.chunk(b"@SFV", 0, 0, &vec![0; 100 * MIB]);
+    film.end(b"@SFV");
+    film.bytes[36..40].copy_from_slice(&424_u32.to_be_bytes());
+    folder.write("reach.usm", &film.bytes);
+    folder.write("plain.usm", &films::f());
+    for words in ["info reach.usm plain.usm", "keys 1 1 reach.usm plain.usm", "list reach.usm"] {
+        assert_eq!(with_memory(&folder, WINDOW, words), (0, String::new()), "{words}");
+    }
 }
 
 #[test]
@@ -59,7 +109,7 @@ fn moving_takes_both_films() {
 }
 
 #[test]
-fn a_list_takes_24_bytes_a_chunk() {
+fn a_list_takes_no_memory_for_its_chunks() {
     let folder = Folder::new();
     let mut film = Film::new(&Header::default());
     let chunks = 6_000_000;
@@ -70,14 +120,9 @@ fn a_list_takes_24_bytes_a_chunk() {
     film.bytes.extend(b"last\0\0\xFF\xFF");
     film.bytes.extend([0; 37]);
     folder.write("tiny.usm", &film.bytes);
-    let counted = usm::count(&film.bytes, usm::Reading::default()).unwrap();
-    assert!(counted >= chunks);
-    let most = film.bytes.len() + 24 * counted + 64 * MIB;
     for words in ["info tiny.usm", "list tiny.usm", "list --json tiny.usm"] {
-        assert_eq!(with_memory(&folder, most, words), (0, String::new()), "{words}");
+        assert_eq!(with_memory(&folder, WINDOW, words), (0, String::new()), "{words}");
     }
-    let (status, err) = with_memory(&folder, film.bytes.len() + 12 * counted, "list tiny.usm");
-    assert_eq!((status, err), (2, format!("usm: tiny.usm: no memory for a list of {counted} chunks\n")));
 }
 
 #[test]
@@ -87,9 +132,13 @@ fn a_name_as_long_as_a_film_takes_nothing_more() {
     let film = Film::new(&Header { name: Some(&name), ..Header::default() }).bytes;
     folder.write("name.usm", &film);
     let most = film.len() + 64 * MIB;
-    for words in
-        ["info name.usm", "info --json name.usm", "table name.usm", "table --json name.usm", "extract name.usm"]
-    {
+    for words in [
+        "info name.usm",
+        "info --json name.usm",
+        "table name.usm",
+        "table --json --limit 1G name.usm",
+        "extract name.usm",
+    ] {
         assert_eq!(with_memory(&folder, most, words), (0, String::new()), "{words}");
     }
 }

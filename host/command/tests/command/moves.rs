@@ -78,7 +78,7 @@ fn films_that_can_not_be_written() {
     let payload = marked.windows(13).position(|bytes| bytes == b"-CONTENTS END").unwrap();
     marked[payload] = b'#';
     folder.write("marked.usm", &marked);
-    let reason = "a payload that begins with #CONTENTS END";
+    let reason = "a payload begins with the end marker";
     folder.usm(&["from-old", "--json", "marked.usm"]).expect(
         1,
         &format!(

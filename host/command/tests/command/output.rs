@@ -63,11 +63,11 @@ fn a_reader_that_goes_is_no_news() {
     let folder = Folder::new();
     let film = films::large(b"x", 64 << 20);
     let chunks = usm::count(&film, usm::Reading::default()).unwrap();
-    folder.write("film.usm", &film);
-    let run = folder.shell(
-        "$USM list film.usm film.usm film.usm film.usm film.usm film.usm film.usm | head -n 1; exit ${PIPESTATUS[0]}",
-    );
-    run.expect(2, &format!("film.usm: {chunks} chunks\n"), "");
+    for number in 0..7 {
+        folder.write(&format!("{number}.usm"), &film);
+    }
+    let run = folder.shell("$USM list ?.usm | head -n 1; exit ${PIPESTATUS[0]}");
+    run.expect(2, &format!("0.usm: {chunks} chunks\n"), "");
 }
 
 /// Runs the command on a terminal, with a film that comes in two parts. Gives what the terminal shows.

@@ -54,7 +54,7 @@ fn standard_input_is_a_stream() {
 fn what_can_not_be_packed() {
     let folder = with_streams();
     folder.write("marked", b"#CONTENTS END of the film");
-    let marked = "a payload that begins with #CONTENTS END";
+    let marked = "a payload begins with the end marker";
     folder.usm(&["pack", "marked", "-o", "a.usm"]).expect(1, "", &format!("usm: a.usm: refused 15 at 0: {marked}\n"));
     folder.usm(&["pack", "marked", "-o", "a.usm", "--json"]).expect(
         1,

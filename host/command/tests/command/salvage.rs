@@ -8,12 +8,18 @@ fn what_arrived_is_written() {
         0,
         "cut.usm\nwritten  384 bytes: ./cut.salvaged.usm\ndropped  44 bytes: bytes run out\n\
          \n\
-         f.usm\nwritten  448 bytes: ./f.salvaged.usm\ndropped  none: the film is accepted\n\
+         f.usm\nskipped: the film is whole\n\
          \n\
          song.usm\nwritten  1792 bytes: ./song.salvaged.usm\ndropped  208 bytes: bytes run out\n",
         "",
     );
     assert_eq!(folder.read("cut.salvaged.usm"), films::f()[..384]);
+    assert!(!folder.path("f.salvaged.usm").exists());
+    folder.usm(&["salvage", "--all", "f.usm"]).expect(
+        0,
+        "f.usm\nwritten  448 bytes: ./f.salvaged.usm\ndropped  none: the film is whole\n",
+        "",
+    );
     assert_eq!(folder.read("f.salvaged.usm"), films::f());
     assert_eq!(folder.usm(&["info", "song.salvaged.usm"]).status, 0);
 }
@@ -21,7 +27,7 @@ fn what_arrived_is_written() {
 #[test]
 fn the_same_names_in_a_folder_of_their_own() {
     let folder = Folder::with_films();
-    folder.usm(&["salvage", "-q", "-o", "saved", "cut.usm", "f.usm"]).expect(0, "", "");
+    folder.usm(&["salvage", "-q", "--all", "-o", "saved", "cut.usm", "f.usm"]).expect(0, "", "");
     assert_eq!(names(&folder.path("saved")), ["cut.usm", "f.usm"]);
     let there = "usm: cut.usm: saved/cut.usm: the file is there already; --force replaces it\n";
     folder.usm(&["salvage", "-o", "saved", "cut.usm"]).expect(2, "", there);
@@ -53,8 +59,13 @@ fn json_and_standard_input() {
          \"reason\":\"bytes run out\"}\n",
         "",
     );
-    let whole = folder.usm_with(&["salvage", "--json", "--force", "-"], &films::f());
+    let whole = folder.usm_with(&["salvage", "--json", "--force", "--all", "-"], &films::f());
     assert!(whole.out.ends_with("\"dropped\":\"0\",\"cause\":0,\"reason\":null}\n"), "{}", whole.out);
+    folder.usm_with(&["salvage", "--json", "--force", "-"], &films::f()).expect(
+        0,
+        "{\"file\":\"-\",\"file_hex\":\"2d\",\"skipped\":\"the film is whole\"}\n",
+        "",
+    );
     assert_eq!(folder.usm(&["salvage"]).status, 2);
 }
 
@@ -67,6 +78,16 @@ fn a_full_disk_leaves_no_film() {
     };
     folder.write("film.usm", &films::large(b"x", 200_000));
     let full = "usm: film.usm: disk/film.usm: No space left on device (os error 28)\n";
-    folder.usm(&["salvage", "film.usm", "-o", "disk"]).expect(2, "", full);
+    folder.usm(&["salvage", "--all", "film.usm", "-o", "disk"]).expect(2, "", full);
     assert_eq!(names(&folder.path("disk")), [""; 0]);
+}
+
+#[test]
+fn what_was_salvaged_is_not_salvaged_again() {
+    let folder = Folder::new();
+    folder.write("cut.usm", &films::f()[..428]);
+    for _ in 0..3 {
+        folder.usm(&["salvage", "-q", "--skip-existing", "."]).expect(0, "", "");
+        assert_eq!(folder.names(), ["cut.salvaged.usm", "cut.usm"]);
+    }
 }

@@ -26,7 +26,7 @@ fn shares_and_totals() {
         \x20                  7                     3            11\n\
         \x20                  9                     3            10\n\
          \n\
-         total of 2 films\n\
+         total of 2 films, 1 not done: this statement is incomplete\n\
         \x20             tenant                               bytes\n\
         \x20                  3                                1106\n\
         \x20                  7                                1105\n\
@@ -35,7 +35,7 @@ fn shares_and_totals() {
     );
     folder.usm(&["statement", "tenants.csv", "cut.usm"]).expect(
         1,
-        "",
+        "total of 0 films, 1 not done: this statement is incomplete\n",
         "usm: cut.usm: refused 1 at 384: bytes run out\n",
     );
 }
@@ -53,20 +53,32 @@ fn the_order_of_tenants_moves_no_line() {
 #[test]
 fn csv_and_json() {
     let folder = with_tenants();
-    folder.usm(&["statement", "--csv", "tenants.csv", "song.usm", "f.usm"]).expect(
+    let head = "file,tenant,group,bytes,error\r\n";
+    let why = "refused 1 at 384: bytes run out";
+    folder.usm(&["statement", "--csv", "tenants.csv", "song.usm", "cut.usm", "f.usm"]).expect(
+        1,
+        &format!(
+            "{head}song.usm,3,3,1095,\r\nsong.usm,7,3,1094,\r\nsong.usm,9,9,2189,\r\ncut.usm,,,,{why}\r\n\
+             f.usm,3,3,11,\r\nf.usm,7,3,11,\r\nf.usm,9,3,10,\r\n"
+        ),
+        &format!("usm: cut.usm: {why}\n"),
+    );
+    folder.usm(&["statement", "--csv", "--totals", "tenants.csv", "song.usm", "f.usm"]).expect(
         0,
-        "file,tenant,group,bytes\r\n\
-         song.usm,3,3,1095\r\nsong.usm,7,3,1094\r\nsong.usm,9,9,2189\r\n\
-         f.usm,3,3,11\r\nf.usm,7,3,11\r\nf.usm,9,3,10\r\n\
-         ,3,,1106\r\n,7,,1105\r\n,9,,2199\r\n",
+        "tenant,bytes\r\n3,1106\r\n7,1105\r\n9,2199\r\n",
         "",
     );
+    let run = folder.usm(&["statement", "--csv", "tenants.csv", "none.usm"]);
+    assert!(run.status == 2 && run.out.starts_with(&format!("{head}none.usm,,,,No such file")), "{}", run.out);
+    folder.write("=1+1.usm", &films::f());
+    let run = folder.usm(&["statement", "--csv", "--spreadsheet", "tenants.csv", "=1+1.usm"]);
+    assert!(run.out.contains("\r\n'=1+1.usm,3,3,11,\r\n"), "{}", run.out);
     folder.write("one.csv", b"18446744073709551615,0");
     folder.usm(&["statement", "--json", "one.csv", "f.usm"]).expect(
         0,
         "{\"file\":\"f.usm\",\"file_hex\":\"662e75736d\",\"shares\":[{\"tenant\":\"18446744073709551615\",\
          \"group\":\"18446744073709551615\",\"bytes\":\"32\"}]}\n\
-         {\"films\":1,\"totals\":[{\"tenant\":\"18446744073709551615\",\"bytes\":\"32\"}]}\n",
+         {\"films\":1,\"failed\":0,\"totals\":[{\"tenant\":\"18446744073709551615\",\"bytes\":\"32\"}]}\n",
         "",
     );
     assert_eq!(folder.usm(&["statement", "--csv", "--json", "one.csv", "f.usm"]).status, 2);
@@ -75,19 +87,19 @@ fn csv_and_json() {
 #[test]
 fn tenants_that_can_not_be() {
     let folder = with_tenants();
-    let rule = "no tenant, over 16 of them, or a number twice";
+    let rule = "no tenant, over 16 tenants, or a tenant number twice";
     let seventeen: String = (0..17).map(|number| format!("{number},0\n")).collect();
     for (text, what) in [
         ("", rule),
         ("tenant,key\n", rule),
-        ("1,2\n1,3\n", rule),
+        ("1,2\n1,3\n", "line 2: tenant 1 is there already, in line 1"),
         (&seventeen, rule),
         ("1,2\nx,3\n", "line 2: x is no tenant's number"),
         ("-1,3\n", "line 1: -1 is no tenant's number"),
         ("18446744073709551616,3\n", "line 1: 18446744073709551616 is no tenant's number"),
         ("1,xyz\n", "line 1: xyz is no key: a key is 1 to 16 hex digits, with or without 0x"),
-        ("1\n", "record 1: it is no number and key"),
-        ("1,2,3\n", "record 1: it is no number and key"),
+        ("1\n", "line 1: 1 field, and 2 are expected: NUMBER,KEY"),
+        ("1,2,3\n", "line 1: 3 fields, and 2 are expected: NUMBER,KEY"),
     ] {
         folder.write("wrong.csv", text.as_bytes());
         folder.usm(&["statement", "wrong.csv", "f.usm"]).expect(2, "", &format!("usm: wrong.csv: {what}\n"));
@@ -97,8 +109,24 @@ fn tenants_that_can_not_be() {
     assert!(run.err.starts_with("usm: none.csv: "), "{}", run.err);
     folder.write("decimal.csv", b"1,99\n");
     let run = folder.usm(&["statement", "decimal.csv", "f.usm"]);
-    assert!(run.status == 0 && run.err.starts_with("usm: note: 99 is read as hex"), "{}", run.err);
+    assert!(run.status == 0 && run.err.starts_with("usm: note: decimal.csv: line 1: 99 is read as hex"), "{}", run.err);
     assert_eq!(folder.usm(&["statement", "tenants.csv"]).status, 2);
+}
+
+#[test]
+fn a_film_that_is_named_twice_is_billed_once() {
+    let folder = with_tenants();
+    std::fs::hard_link(folder.path("song.usm"), folder.path("copy.usm")).unwrap();
+    let run = folder.usm(&["statement", "tenants.csv", "song.usm", "./song.usm", "copy.usm"]);
+    assert!(run.out.contains("\ntotal of 1 film\n"), "{}", run.out);
+    assert_eq!(
+        run.err,
+        "usm: note: ./song.usm: passed over: it is the same file as song.usm\n\
+         usm: note: copy.usm: passed over: it is the same file as song.usm\n"
+    );
+    let by_input = folder.usm_with(&["statement", "-", "song.usm"], b"7;1\n9;2\n");
+    assert!(by_input.status == 0 && by_input.out.contains("total of 1 film"), "{by_input:?}");
+    assert_eq!(folder.usm_with(&["statement", "-", "-"], b"7,1\n").status, 2);
 }
 
 #[test]

@@ -1,0 +1,216 @@
+//! A film that is open, and how its bytes are read.
+
+use std::fs::File;
+use std::io::{self, Cursor, Read, Seek, SeekFrom};
+use std::os::fd::AsFd;
+use std::os::unix::fs::FileExt;
+use std::path::Path;
+
+use rustix::fd::FromFd;
+use rustix::fs::{Mode, OFlags, ResolveFlags, cwd, openat, openat2};
+use usm::{Reader, Reading, Refusal};
+
+use crate::output::Error;
+use crate::run::progress::Meter;
+use crate::run::sources::{Origin, Source};
+
+/// An open film.
+pub enum Input {
+    /// A file, from where it stands to its end.
+    File { file: File, start: u64, length: u64 },
+    /// A pipe or a device, whose length nobody knows.
+    Pipe(File),
+    /// What a pipe gave.
+    Memory(Cursor<Vec<u8>>),
+}
+
+impl Source {
+    /// Opens the film. A file of a folder is opened without waiting, and only where it is a file still.
+    pub fn open(&self) -> Result<Input, Error> {
+        let file = match &self.origin {
+            Origin::Named => File::open(&self.label),
+            Origin::StandardInput => io::stdin().as_fd().try_clone_to_owned().map(File::from),
+            Origin::Below(folder) => open_below(folder, &self.label),
+            Origin::Followed => open_at_once(&self.label, OFlags::empty()),
+            Origin::Unreadable(why) => return Err(Error::System(why.clone())),
+        };
+        let mut file = file.map_err(Error::io)?;
+        let metadata = file.metadata().map_err(Error::io)?;
+        if !metadata.is_file() {
+            return match self.origin {
+                Origin::Below(_) | Origin::Followed => Err(Error::System("it is not a file any more".to_string())),
+                _ => Ok(Input::Pipe(file)),
+            };
+        }
+        let start = file.stream_position().map_err(Error::io)?;
+        let length = metadata.len().saturating_sub(start);
+        Refusal::by_length(length)?;
+        Ok(Input::File { file, start, length })
+    }
+}
+
+/// Opens a file in a folder. No link is followed on the way, so that none that was put there meanwhile leads elsewhere.
+fn open_below(folder: &Path, path: &Path) -> io::Result<File> {
+    let Ok(below) = path.strip_prefix(folder) else { return open_at_once(path, OFlags::NOFOLLOW) };
+    let root = openat(cwd(), folder, OFlags::DIRECTORY | OFlags::RDONLY | OFlags::CLOEXEC, Mode::empty())?;
+    let flags = OFlags::RDONLY | OFlags::NONBLOCK | OFlags::CLOEXEC;
+    let resolve = ResolveFlags::BENEATH | ResolveFlags::NO_SYMLINKS;
+    match openat2(&root, below, flags, Mode::empty(), resolve) {
+        Ok(file) => Ok(File::from_into_fd(file)),
+        // A kernel before 5.6, or a sandbox that does not know the call.
+        Err(rustix::io::Errno::NOSYS | rustix::io::Errno::PERM) => open_at_once(path, OFlags::NOFOLLOW),
+        Err(error) => Err(error.into()),
+    }
+}
+
+/// Opens a file without waiting for a writer, should it be a pipe by now.
+fn open_at_once(path: &Path, more: OFlags) -> io::Result<File> {
+    let flags = OFlags::RDONLY | OFlags::NONBLOCK | OFlags::CLOEXEC | more;
+    Ok(File::from_into_fd(openat(cwd(), path, flags, Mode::empty())?))
+}
+
+/// So much of a file is read between two looks at the meter.
+const PIECE: usize = 4 << 20;
+
+/// The same of a pipe, which may be slow.
+const PIPE_PIECE: u64 = 1 << 16;
+
+/// Room for what a pipe gives grows by so much.
+const GROWTH: usize = 16 << 20;
+
+impl Input {
+    /// The film, to be read piece by piece. What a pipe gives is in memory then.
+    pub fn reader(&mut self, reading: Reading, meter: &Meter) -> Result<Reader<&mut Input>, Error> {
+        if let Input::Pipe(_) = self {
+            let mut bytes = Vec::new();
+            self.read_all(&mut bytes, meter)?;
+            *self = Input::Memory(Cursor::new(bytes));
+        }
+        Ok(Reader::new(self, reading)?)
+    }
+
+    /// All its bytes, in the place of what was in a buffer.
+    pub fn read_all(&mut self, bytes: &mut Vec<u8>, meter: &Meter) -> Result<(), Error> {
+        match self {
+            Input::File { file, length, .. } => {
+                read_file(file, *length, bytes, meter)?;
+                self.check_end()
+            }
+            Input::Pipe(file) => read_pipe(file, bytes, meter),
+            Input::Memory(read) => {
+                make_room(bytes, read.get_ref().len())?;
+                bytes.extend_from_slice(read.get_ref());
+                Ok(())
+            }
+        }
+    }
+
+    /// A file that has grown since it was opened is still being written.
+    pub fn check_end(&self) -> Result<(), Error> {
+        let Input::File { file, start, length } = self else { return Ok(()) };
+        match file.read_at(&mut [0], start + length) {
+            Ok(0) => Ok(()),
+            Ok(_) => Err(Error::System(format!("it grew while it was read: it had {length} bytes"))),
+            Err(error) => Err(Error::io(error)),
+        }
+    }
+}
+
+impl Read for Input {
+    fn read(&mut self, room: &mut [u8]) -> io::Result<usize> {
+        match self {
+            Input::File { file, .. } | Input::Pipe(file) => file.read(room),
+            Input::Memory(bytes) => bytes.read(room),
+        }
+    }
+}
+
+impl Seek for Input {
+    /// The end of a file is where it was when the file was opened.
+    fn seek(&mut self, to: SeekFrom) -> io::Result<u64> {
+        match (self, to) {
+            (Input::File { file, start, length }, SeekFrom::End(from)) => {
+                file.seek(SeekFrom::Start((*start + *length).saturating_add_signed(from)))
+            }
+            (Input::File { file, .. } | Input::Pipe(file), to) => file.seek(to),
+            (Input::Memory(bytes), to) => bytes.seek(to),
+        }
+    }
+}
+
+/// Reads a file, whose length is known.
+fn read_file(file: &mut File, length: u64, bytes: &mut Vec<u8>, meter: &Meter) -> Result<(), Error> {
+    let length = length as usize;
+    make_room(bytes, length)?;
+    bytes.resize(length, 0);
+    let mut filled = 0;
+    while filled < length {
+        let piece = PIECE.min(length - filled);
+        match file.read(&mut bytes[filled..filled + piece]) {
+            Ok(0) => {
+                let what = format!("it shrank while it was read: {filled} of {length} bytes are left");
+                return Err(Error::System(what));
+            }
+            Ok(count) => {
+                filled += count;
+                meter.advance(count as u64);
+            }
+            Err(error) if error.kind() == io::ErrorKind::Interrupted => {}
+            Err(error) => return Err(Error::io(error)),
+        }
+    }
+    Ok(())
+}
+
+/// Reads a pipe or a device to its end, or to the first byte that is too many.
+fn read_pipe(file: &mut File, bytes: &mut Vec<u8>, meter: &Meter) -> Result<(), Error> {
+    bytes.clear();
+    loop {
+        if bytes.len() == bytes.capacity() {
+            bytes.try_reserve_exact(GROWTH).map_err(|_| no_memory(bytes.len() + GROWTH))?;
+        }
+        let room = (bytes.capacity() - bytes.len()) as u64;
+        let read = file.take(room.min(PIPE_PIECE)).read_to_end(bytes).map_err(Error::io)?;
+        if read == 0 {
+            return Ok(());
+        }
+        meter.advance(read as u64);
+        Refusal::by_length(bytes.len() as u64)?;
+    }
+}
+
+/// Empties a buffer and makes room in it, for exactly so many bytes where it has less.
+pub fn make_room(bytes: &mut Vec<u8>, size: usize) -> Result<(), Error> {
+    bytes.clear();
+    if bytes.capacity() < size {
+        *bytes = Vec::new();
+        bytes.try_reserve_exact(size).map_err(|_| no_memory(size))?;
+    }
+    Ok(())
+}
+
+fn no_memory(size: usize) -> Error {
+    Error::System(format!("no memory for {size} bytes"))
+}
+
+/// What a worker needs memory for. It goes from film to film, so that small films cost no new memory each.
+#[derive(Default)]
+pub struct Buffers {
+    pub film: Vec<u8>,
+    /// For what is made of a film.
+    pub made: Vec<u8>,
+}
+
+/// A buffer that is larger is not kept.
+const KEPT: usize = 16 << 20;
+
+impl Buffers {
+    /// Gives back what is large.
+    pub fn shrink(&mut self) {
+        for buffer in [&mut self.film, &mut self.made] {
+            if buffer.capacity() > KEPT {
+                *buffer = Vec::new();
+            }
+        }
+    }
+}
