@@ -98,9 +98,14 @@ pub fn f() -> Vec<u8> {
 
 /// A film of about so many bytes with ADX audio: payloads of 32 KiB, fifteen of video to one of audio.
 pub fn large(name: &[u8], length: usize) -> Vec<u8> {
+    with_payloads(name, length, 32 << 10)
+}
+
+/// The same with payloads of another length.
+pub fn with_payloads(name: &[u8], length: usize, payload: usize) -> Vec<u8> {
     let mut film = Film::new(&Header { name: Some(name), video_codec: Some(1), audio: Some(Some(2)) });
     film.bytes.reserve_exact(length.saturating_sub(film.bytes.len()));
-    let payload: Vec<u8> = (0..32_768_u32).map(|at| (at.wrapping_mul(2_654_435_761) >> 24) as u8).collect();
+    let payload: Vec<u8> = (0..payload as u32).map(|at| (at.wrapping_mul(2_654_435_761) >> 24) as u8).collect();
     let mut turn = 0;
     while film.bytes.len() + 2 * payload.len() < length {
         let letters = if turn % 16 == 15 { b"@SFA" } else { b"@SFV" };

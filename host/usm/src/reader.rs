@@ -214,8 +214,13 @@ impl<R: Read> Reader<R> {
     /// The next chunk, without its payload; `None` where they are over.
     pub fn next_chunk(&mut self) -> Result<Option<ChunkHead>, Error> {
         self.pending = None;
+        self.step(false)
+    }
+
+    /// Goes to the next chunk.
+    fn step(&mut self, with_payload: bool) -> Result<Option<ChunkHead>, Error> {
         let (place, total) = (self.next, self.window.total());
-        let head = self.window.head(place, HEAD)?;
+        let head = self.window.head(place, HEAD, with_payload)?;
         let reply = ffi::step(head, place, total, self.reading.for_c(), self.audio);
         Refusal::check(reply.number, reply.refused_at, reply.unknown_type)?;
         if reply.found != 1 {
@@ -244,7 +249,7 @@ impl<R: Read> Reader<R> {
     /// without one. The parts of a stream put one after the other are the stream.
     pub fn next_part(&mut self, key: Option<u64>) -> Result<Option<Part<'_>>, Error> {
         while self.pending.is_none() {
-            let Some(chunk) = self.next_chunk()? else { return Ok(None) };
+            let Some(chunk) = self.step(true)? else { return Ok(None) };
             self.pending = Pending::of(&chunk, self.next);
         }
         let Some(pending) = self.pending.take() else { return Ok(None) };
@@ -259,6 +264,17 @@ impl<R: Read> Reader<R> {
     pub fn payload(&mut self, chunk: &ChunkHead) -> Result<&[u8], Error> {
         let payload = self.window.part(chunk.payload, chunk.length)?;
         Ok(payload)
+    }
+
+    /// Some bytes of the payload of the chunk that was last given, as they are stored, from a byte of it on: one at least.
+    ///
+    /// # Panics
+    ///
+    /// Where the payload has no such byte.
+    pub fn payload_from(&mut self, chunk: &ChunkHead, byte: usize) -> Result<&[u8], Error> {
+        assert!(byte < chunk.length, "a payload of {} bytes has no byte {byte}", chunk.length);
+        let bytes = self.window.some(chunk.payload + byte, chunk.length - byte)?;
+        Ok(bytes)
     }
 
     /// As much of a payload as there is in the window.

@@ -9,10 +9,10 @@ use crate::error::make_room;
 const WIDE: usize = 256 << 10;
 
 /// The bytes that are read where only the head of a chunk is wanted.
-const NARROW: usize = 512;
+const NARROW: usize = 64;
 
-/// A jump over fewer bytes than this costs more than to read them.
-const SHORT_JUMP: usize = 8 << 10;
+/// To jump over a chunk that is shorter costs more than to read it.
+const SHORT: usize = 8 << 10;
 
 /// Moves a reader forward without its bytes.
 type Skip<R> = fn(&mut R, u64) -> io::Result<()>;
@@ -28,6 +28,8 @@ pub(crate) struct Window<R> {
     filled: usize,
     /// The place in the film of the first byte.
     start: usize,
+    /// The place of the last head.
+    head: usize,
 }
 
 impl<R: Read + Seek> Window<R> {
@@ -62,7 +64,7 @@ impl<R: Read> Window<R> {
 
     fn with(source: R, skip: Skip<R>, total: u64) -> Result<Window<R>, Error> {
         crate::Refusal::by_length(total)?;
-        Ok(Window { source, skip, total: total as usize, room: Vec::new(), filled: 0, start: 0 })
+        Ok(Window { source, skip, total: total as usize, room: Vec::new(), filled: 0, start: 0, head: 0 })
     }
 
     pub fn total(&self) -> usize {
@@ -95,14 +97,16 @@ impl<R: Read> Window<R> {
         Ok(std::mem::replace(&mut self.room, rest))
     }
 
-    /// The head of a chunk: so many bytes from a place on, or all that are left.
-    pub fn head(&mut self, place: usize, least: usize) -> Result<&[u8], Error> {
+    /// The head of a chunk: so many bytes from a place on, or all that are left. Where its payload is wanted too, or the
+    /// chunk before it was short, more is read at once.
+    pub fn head(&mut self, place: usize, least: usize, with_payload: bool) -> Result<&[u8], Error> {
         let least = least.min(self.total.saturating_sub(place));
         if least == 0 {
             return Ok(&[]);
         }
-        let is_near = place < self.end().saturating_add(SHORT_JUMP);
-        self.hold(place, least, if is_near { WIDE } else { NARROW })?;
+        let is_short = place.saturating_sub(self.head) < SHORT;
+        self.head = place;
+        self.hold(place, least, if with_payload || is_short { WIDE } else { NARROW })?;
         Ok(&self.room[place - self.start..self.filled])
     }
 

@@ -16,8 +16,8 @@ use crate::run::sources::{Origin, Source};
 
 /// An open film.
 pub enum Input {
-    /// A file, from where it stands to its end.
-    File { file: File, start: u64, length: u64 },
+    /// A file, from where it stood to its end. It is read at places: to seek costs no call.
+    File { file: File, start: u64, length: u64, place: u64 },
     /// A pipe or a device, whose length nobody knows.
     Pipe(File),
     /// What a pipe gave.
@@ -45,7 +45,7 @@ impl Source {
         let start = file.stream_position().map_err(Error::io)?;
         let length = metadata.len().saturating_sub(start);
         Refusal::by_length(length)?;
-        Ok(Input::File { file, start, length })
+        Ok(Input::File { file, start, length, place: start })
     }
 }
 
@@ -70,7 +70,7 @@ fn open_at_once(path: &Path, more: OFlags) -> io::Result<File> {
 }
 
 /// So much of a file is read between two looks at the meter.
-const PIECE: usize = 4 << 20;
+const PIECE: u64 = 64 << 20;
 
 /// The same of a pipe, which may be slow.
 const PIPE_PIECE: u64 = 1 << 16;
@@ -107,7 +107,7 @@ impl Input {
 
     /// A file that has grown since it was opened is still being written.
     pub fn check_end(&self) -> Result<(), Error> {
-        let Input::File { file, start, length } = self else { return Ok(()) };
+        let Input::File { file, start, length, .. } = self else { return Ok(()) };
         match file.read_at(&mut [0], start + length) {
             Ok(0) => Ok(()),
             Ok(_) => Err(Error::System(format!("it grew while it was read: it had {length} bytes"))),
@@ -119,7 +119,12 @@ impl Input {
 impl Read for Input {
     fn read(&mut self, room: &mut [u8]) -> io::Result<usize> {
         match self {
-            Input::File { file, .. } | Input::Pipe(file) => file.read(room),
+            Input::File { file, place, .. } => {
+                let count = file.read_at(room, *place)?;
+                *place += count as u64;
+                Ok(count)
+            }
+            Input::Pipe(file) => file.read(room),
             Input::Memory(bytes) => bytes.read(room),
         }
     }
@@ -128,35 +133,32 @@ impl Read for Input {
 impl Seek for Input {
     /// The end of a file is where it was when the file was opened.
     fn seek(&mut self, to: SeekFrom) -> io::Result<u64> {
-        match (self, to) {
-            (Input::File { file, start, length }, SeekFrom::End(from)) => {
-                file.seek(SeekFrom::Start((*start + *length).saturating_add_signed(from)))
+        match self {
+            Input::File { start, length, place, .. } => {
+                *place = match to {
+                    SeekFrom::Start(at) => at,
+                    SeekFrom::Current(from) => place.saturating_add_signed(from),
+                    SeekFrom::End(from) => (*start + *length).saturating_add_signed(from),
+                };
+                Ok(*place)
             }
-            (Input::File { file, .. } | Input::Pipe(file), to) => file.seek(to),
-            (Input::Memory(bytes), to) => bytes.seek(to),
+            Input::Pipe(file) => file.seek(to),
+            Input::Memory(bytes) => bytes.seek(to),
         }
     }
 }
 
 /// Reads a file, whose length is known.
 fn read_file(file: &mut File, length: u64, bytes: &mut Vec<u8>, meter: &Meter) -> Result<(), Error> {
-    let length = length as usize;
-    make_room(bytes, length)?;
-    bytes.resize(length, 0);
-    let mut filled = 0;
-    while filled < length {
-        let piece = PIECE.min(length - filled);
-        match file.read(&mut bytes[filled..filled + piece]) {
-            Ok(0) => {
-                let what = format!("it shrank while it was read: {filled} of {length} bytes are left");
-                return Err(Error::System(what));
+    make_room(bytes, length as usize)?;
+    while (bytes.len() as u64) < length {
+        let left = length - bytes.len() as u64;
+        match file.take(left.min(PIECE)).read_to_end(bytes).map_err(Error::io)? {
+            0 => {
+                let left = bytes.len();
+                return Err(Error::System(format!("it shrank while it was read: {left} of {length} bytes are left")));
             }
-            Ok(count) => {
-                filled += count;
-                meter.advance(count as u64);
-            }
-            Err(error) if error.kind() == io::ErrorKind::Interrupted => {}
-            Err(error) => return Err(Error::io(error)),
+            count => meter.advance(count as u64),
         }
     }
     Ok(())

@@ -14,6 +14,9 @@ use crate::run::progress::Meter;
 /// Payloads that are shorter are gathered before they are written.
 const GATHERED: usize = 32 << 10;
 
+/// Payloads that are shorter are not worth a call to copy them.
+const COPIED: usize = 16 << 10;
+
 /// Writes both streams to files that are begun: video to the first, audio to the second where there is one. Gives their
 /// sizes.
 pub fn write(
@@ -63,25 +66,36 @@ fn number(stream: Stream) -> usize {
     }
 }
 
-/// As they are stored, the streams need not pass through this program: the kernel copies them.
+/// As they are stored, the streams need not pass through this program: the kernel copies them. Short payloads are
+/// gathered all the same, because a call for each costs more.
 fn copy(reader: &mut Reader<&mut Input>, staged: &mut StagedFiles, meter: &Meter) -> Result<[usize; 2], Error> {
     let mut sizes = [0; 2];
+    let mut files = staged.files();
+    let mut writers: Vec<(BufWriter<&mut File>, _)> =
+        files.iter_mut().map(|(file, target)| (BufWriter::with_capacity(GATHERED, &mut **file), *target)).collect();
     while let Some(chunk) = reader.next_chunk()? {
         let number = match chunk.kind {
             ChunkKind::Video => 0,
             ChunkKind::Audio => 1,
             _ => continue,
         };
-        let mut files = staged.files();
-        let Some((file, target)) = files.get_mut(number) else { continue };
-        let copied = copy_payload(reader.get_ref(), &chunk, file).map_err(|error| Error::with(target, error))?;
-        if copied < chunk.length {
-            // The file system can't copy, or not between these two.
-            let payload = reader.payload(&chunk)?;
-            file.write_all(&payload[copied..]).map_err(|error| Error::with(target, error))?;
+        let Some((writer, target)) = writers.get_mut(number) else { continue };
+        let mut copied = 0;
+        if chunk.length >= COPIED {
+            let copy = writer.flush().and_then(|()| copy_payload(reader.get_ref(), &chunk, writer.get_ref()));
+            copied = copy.map_err(|error| Error::with(target, error))?;
+        }
+        // Where the file system can't copy, or not between these two, the rest goes through the window.
+        while copied < chunk.length {
+            let bytes = reader.payload_from(&chunk, copied)?;
+            writer.write_all(bytes).map_err(|error| Error::with(target, error))?;
+            copied += bytes.len();
         }
         sizes[number] += chunk.length;
         meter.reach(reader.place());
+    }
+    for (mut writer, target) in writers {
+        writer.flush().map_err(|error| Error::with(target, error))?;
     }
     Ok(sizes)
 }
