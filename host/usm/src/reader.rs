@@ -120,6 +120,8 @@ impl Mask {
 #[non_exhaustive]
 pub struct Part<'w> {
     pub stream: Stream,
+    /// The channel of the chunk that it is of.
+    pub channel: u8,
     pub bytes: &'w [u8],
 }
 
@@ -127,6 +129,7 @@ pub struct Part<'w> {
 #[derive(Clone, Copy)]
 struct Pending {
     stream: Stream,
+    channel: u8,
     place: usize,
     left: usize,
     mask: Mask,
@@ -279,16 +282,16 @@ impl<R: Read> Reader<R> {
 
     /// As much of a payload as there is in the window.
     fn stored(&mut self, pending: Pending) -> Result<Part<'_>, Error> {
-        let Pending { stream, place, left, .. } = pending;
+        let Pending { stream, channel, place, left, .. } = pending;
         let bytes = self.window.some(place, left)?;
         let left = left - bytes.len();
         self.pending = (left > 0).then_some(Pending { place: place + bytes.len(), left, ..pending });
-        Ok(Part { stream, bytes })
+        Ok(Part { stream, channel, bytes })
     }
 
     /// A whole payload, made clear: in the window, or aside where the next chunk needs its bytes as they are.
     fn clear(&mut self, pending: Pending, key: u64) -> Result<Part<'_>, Error> {
-        let Pending { stream, place, left, mask, overlaps } = pending;
+        let Pending { stream, channel, place, left, mask, overlaps } = pending;
         let stored = self.window.part(place, left)?;
         let bytes = if overlaps {
             self.aside.clear();
@@ -299,7 +302,7 @@ impl<R: Read> Reader<R> {
             stored
         };
         mask.clear(key, bytes);
-        Ok(Part { stream, bytes })
+        Ok(Part { stream, channel, bytes })
     }
 
     /// One stream as a reader. A refusal is an error of kind `InvalidData`, with the [`Error`] inside.
@@ -317,8 +320,14 @@ impl Pending {
             _ => return None,
         };
         let overlaps = chunk.payload + chunk.length > next;
-        let pending = Pending { stream, place: chunk.payload, left: chunk.length, mask: chunk.mask, overlaps };
-        (chunk.length > 0).then_some(pending)
+        (chunk.length > 0).then_some(Pending {
+            stream,
+            channel: chunk.channel,
+            place: chunk.payload,
+            left: chunk.length,
+            mask: chunk.mask,
+            overlaps,
+        })
     }
 }
 

@@ -1,19 +1,21 @@
 //! `usm extract`: both streams of films as files.
 
+use std::collections::BTreeSet;
 use std::path::{Path, PathBuf};
 
-use clap::Args;
+use clap::{Args, ValueEnum};
 use serde::Serialize;
-use usm::{Audio, Header, Reading};
+use usm::{Audio, ChunkKind, Header, Reader, Reading, Stream};
 
-use crate::files::names::{safe, stem};
+use crate::commands::extract_one;
+use crate::files::names::NameOption;
 use crate::files::targets::{Claim, OutputOptions, Targets};
-use crate::options::key;
+use crate::options::key::KeyOptions;
 use crate::options::reading::ReadingOptions;
 use crate::output::json::{About, AsHex, AsText, as_string};
 use crate::output::text::Shown;
-use crate::output::{Error, Status};
-use crate::output::{Output, print_to, report_error};
+use crate::output::{Error, Output, Status, print_to, report_error};
+use crate::run::input::Input;
 use crate::run::sources::Films;
 use crate::run::streams;
 use crate::run::workers::{self, Film, Task, Turn};
@@ -27,35 +29,52 @@ use crate::run::workers::{self, Film, Task, Turn};
 /// Both files are complete and on the disk before either gets its name, and if the second can't have it the first is
 /// undone. So neither a full disk nor a file that is there nor a run that is stopped leaves half a file or half a pair. A
 /// crash of the machine between the two names can. --force replaces regular files only, and loses none if it fails.
+///
+/// --video and --audio write the streams of one film to the files that they name; - is standard output.
 #[derive(Args)]
 pub struct Extract {
     #[command(flatten)]
-    films: Films,
-    /// The key, 1 to 16 hex digits
-    #[arg(long, short, value_name = "KEY")]
-    key: Option<String>,
+    pub films: Films,
     #[command(flatten)]
-    reading: ReadingOptions,
+    pub key: KeyOptions,
+    /// Write the video of one film to FILE, or with - to standard output
+    #[arg(long, value_name = "FILE", conflicts_with_all = ["output", "skip_existing", "json", "channels"])]
+    pub video: Option<PathBuf>,
+    /// Write the audio of one film to FILE, or with - to standard output
+    #[arg(long, value_name = "FILE", conflicts_with_all = ["output", "skip_existing", "json", "channels", "no_audio"])]
+    pub audio: Option<PathBuf>,
+    /// What becomes of several channels of audio: joined in one file, or each in a file of its own, NAME.CHANNEL.adx
+    #[arg(long, value_name = "HOW", value_enum, conflicts_with_all = ["channel", "no_audio"])]
+    channels: Option<Channels>,
     #[command(flatten)]
-    output: OutputOptions,
+    name: NameOption,
+    #[command(flatten)]
+    pub reading: ReadingOptions,
+    #[command(flatten)]
+    pub output: OutputOptions,
+}
+
+#[derive(Clone, Copy, PartialEq, ValueEnum)]
+enum Channels {
+    Joined,
+    Each,
 }
 
 impl Extract {
     pub fn run(self) -> Status {
-        let key = match key::given(self.key.as_deref()) {
-            Ok(key) => key,
-            Err(status) => return status,
+        if self.video.is_some() || self.audio.is_some() {
+            return extract_one::run(&self);
+        }
+        let begin = || {
+            let key = self.key.key()?;
+            let sources = self.films.sources()?;
+            let targets = Targets::new(&self.output, &sources)?;
+            Ok((Extraction { key, reading: self.reading.reading(), targets, options: &self }, sources))
         };
-        let sources = match self.films.sources() {
-            Ok(sources) => sources,
-            Err(error) => return report_error(error),
-        };
-        let targets = match Targets::new(&self.output, &sources) {
-            Ok(targets) => targets,
-            Err(error) => return report_error(error),
-        };
-        let extraction = Extraction { key, reading: self.reading.reading(), targets, options: &self };
-        workers::run(&extraction, &sources, &self.films.options)
+        match begin() {
+            Ok((extraction, sources)) => workers::run(&extraction, &sources, &self.films.options),
+            Err(error) => report_error(error),
+        }
     }
 }
 
@@ -66,47 +85,74 @@ struct Extraction<'o> {
     targets: Targets,
 }
 
+/// A file to be written.
+struct StreamFile {
+    path: PathBuf,
+    stream: Stream,
+    /// The channel that it takes; none where it takes all.
+    channel: Option<u8>,
+}
+
 impl Task for Extraction<'_> {
     fn film<'a>(&'a self, film: Film<'a, '_>, turn: &Turn<'a, '_>) -> Result<(), Error> {
         let Film { label, input, meter, .. } = film;
         let mut reader = input.reader(self.reading, meter)?;
-        let files = self.files(label, reader.header());
-        if turn.decide(|| self.targets.claim(label, &files))? == Claim::Skip {
+        let files = self.files(label, &mut reader)?;
+        let paths: Vec<PathBuf> = files.iter().map(|file| file.path.clone()).collect();
+        if turn.decide(|| self.targets.claim(label, &paths))? == Claim::Skip {
             turn.finish_in_turn(move |output| self.print_skipped(label, output));
             return Ok(());
         }
         let mut staged = self.targets.staged();
-        for file in &files {
-            staged.create(file.clone())?;
+        for path in paths {
+            staged.create(path)?;
         }
-        let sizes = streams::write(&mut reader, self.key, &mut staged, meter)?;
+        let route = |stream: Stream, channel: u8| {
+            let is_for = |file: &StreamFile| file.stream == stream && file.channel.is_none_or(|own| own == channel);
+            files.iter().position(is_for)
+        };
+        let sizes = streams::write(&mut reader, self.key, &route, &mut staged, meter)?;
         reader.get_ref().check_end()?;
         self.targets.place(label, staged)?;
         if self.options.films.options.json {
             // The name, which may be as long as the film, stays where it is.
             let name = reader.header().name.as_deref();
-            return turn.take().object(&Extracted::of(label, name, &files, sizes));
+            return turn.take().object(&Extracted::of(label, name, &files, &sizes));
         }
-        turn.finish_in_turn(
-            move |output| {
-                if self.options.output.quiet { Ok(()) } else { print_files(label, &files, sizes, output) }
-            },
-        );
+        turn.finish_in_turn(move |output| {
+            if self.options.output.quiet { Ok(()) } else { print_files(label, &files, &sizes, output) }
+        });
         Ok(())
     }
 }
 
 impl Extraction<'_> {
-    /// The files of a film: that of the video, and that of audio which is taken.
-    fn files(&self, label: &Path, header: &Header) -> Vec<PathBuf> {
-        let name = header.name.as_deref().and_then(safe).unwrap_or_else(|| stem(label));
-        let mut files = vec![self.targets.target(label, &format!("{name}.{}", header.video.kind))];
-        if let Some(format) = &header.audio
-            && self.reading.audio != Audio::None
-        {
-            files.push(self.targets.target(label, &format!("{name}.{}", format.kind)));
+    /// The files of a film: that of the video, and those of audio which is taken.
+    fn files(&self, label: &Path, reader: &mut Reader<&mut Input>) -> Result<Vec<StreamFile>, Error> {
+        let name = self.options.name.of(label, reader.header());
+        let file = |ending: String, stream: Stream, channel: Option<u8>| StreamFile {
+            path: self.targets.target(label, &format!("{name}.{ending}")),
+            stream,
+            channel,
+        };
+        let mut files = vec![file(reader.header().video.kind.to_string(), Stream::Video, None)];
+        let Some(kind) = self.audio_kind(reader.header()) else { return Ok(files) };
+        match self.options.channels {
+            Some(Channels::Each) => {
+                let channels = channels_of(reader)?;
+                files.extend(
+                    channels.iter().map(|&channel| file(format!("{channel}.{kind}"), Stream::Audio, Some(channel))),
+                );
+            }
+            _ => files.push(file(kind, Stream::Audio, None)),
         }
-        files
+        Ok(files)
+    }
+
+    /// The ending of audio that is taken.
+    fn audio_kind(&self, header: &Header) -> Option<String> {
+        let format = header.audio.as_ref().filter(|_| self.reading.audio != Audio::None)?;
+        Some(format.kind.to_string())
     }
 
     fn print_skipped(&self, label: &Path, output: &mut Output) -> Result<(), Error> {
@@ -121,6 +167,18 @@ impl Extraction<'_> {
     }
 }
 
+/// The channels of audio that is taken.
+fn channels_of(reader: &mut Reader<&mut Input>) -> Result<BTreeSet<u8>, Error> {
+    let mut channels = BTreeSet::new();
+    while let Some(chunk) = reader.next_chunk()? {
+        if chunk.kind == ChunkKind::Audio && chunk.length > 0 {
+            channels.insert(chunk.channel);
+        }
+    }
+    reader.rewind()?;
+    Ok(channels)
+}
+
 /// The object of a film whose files are all there.
 #[derive(Serialize)]
 struct Skipped<'a> {
@@ -129,11 +187,12 @@ struct Skipped<'a> {
     skipped: bool,
 }
 
-fn print_files(label: &Path, files: &[PathBuf], sizes: [usize; 2], output: &mut Output) -> Result<(), Error> {
+fn print_files(label: &Path, files: &[StreamFile], sizes: &[usize], output: &mut Output) -> Result<(), Error> {
     output.gap()?;
     print_to!(output, "{}\n", Shown::path(label));
-    for (kind, (target, size)) in ["video", "audio"].iter().zip(files.iter().zip(sizes)) {
-        print_to!(output, "{kind}  {size} bytes: {}\n", Shown::path(target));
+    for (file, size) in files.iter().zip(sizes) {
+        let stream = if file.stream == Stream::Video { "video" } else { "audio" };
+        print_to!(output, "{stream}  {size} bytes: {}\n", Shown::path(&file.path));
     }
     Ok(())
 }
@@ -144,30 +203,42 @@ struct Extracted<'a> {
     about: About<'a>,
     name: Option<AsText<'a>>,
     name_hex: Option<AsHex<'a>>,
-    video: Option<Stream<'a>>,
-    audio: Option<Stream<'a>>,
+    video: Option<StreamObject<'a>>,
+    audio: Option<StreamObject<'a>>,
+    /// Where each channel has a file.
+    #[serde(skip_serializing_if = "Vec::is_empty")]
+    channels: Vec<StreamObject<'a>>,
 }
 
 #[derive(Serialize)]
-struct Stream<'a> {
+struct StreamObject<'a> {
     path: AsText<'a>,
     path_hex: AsHex<'a>,
     #[serde(serialize_with = "as_string")]
     size: usize,
+    #[serde(skip_serializing_if = "Option::is_none")]
+    channel: Option<u8>,
 }
 
 impl<'a> Extracted<'a> {
-    fn of(label: &'a Path, name: Option<&'a [u8]>, files: &'a [PathBuf], sizes: [usize; 2]) -> Extracted<'a> {
-        let stream = |number: usize| {
-            let path = files.get(number)?.as_os_str().as_encoded_bytes();
-            Some(Stream { path: AsText(path), path_hex: AsHex(path), size: sizes[number] })
-        };
-        Extracted {
+    fn of(label: &'a Path, name: Option<&'a [u8]>, files: &'a [StreamFile], sizes: &[usize]) -> Extracted<'a> {
+        let mut extracted = Extracted {
             about: About::new(label),
             name: name.map(AsText),
             name_hex: name.map(AsHex),
-            video: stream(0),
-            audio: stream(1),
+            video: None,
+            audio: None,
+            channels: Vec::new(),
+        };
+        for (file, &size) in files.iter().zip(sizes) {
+            let path = file.path.as_os_str().as_encoded_bytes();
+            let object = StreamObject { path: AsText(path), path_hex: AsHex(path), size, channel: file.channel };
+            match (file.stream, file.channel) {
+                (Stream::Video, _) => extracted.video = Some(object),
+                (Stream::Audio, None) => extracted.audio = Some(object),
+                (Stream::Audio, Some(_)) => extracted.channels.push(object),
+            }
         }
+        extracted
     }
 }

@@ -3,6 +3,7 @@
 pub mod completions;
 pub mod csv;
 pub mod extract;
+pub mod extract_one;
 pub mod from_old;
 pub mod info;
 pub mod keys;

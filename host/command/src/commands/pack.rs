@@ -11,7 +11,7 @@ use usm::Streams;
 use crate::files::identity::FileId;
 use crate::files::staged::{Replacing, StagedFiles};
 use crate::options::codecs::Codecs;
-use crate::options::key;
+use crate::options::key::KeyOptions;
 use crate::output::json::{About, FailedFilm, as_some_string, as_string};
 use crate::output::text::Shown;
 use crate::output::{Error, Status};
@@ -43,9 +43,8 @@ pub struct Pack {
     name: Option<OsString>,
     #[command(flatten)]
     codecs: Codecs,
-    /// The key, 1 to 16 hex digits
-    #[arg(long, short, value_name = "KEY")]
-    key: Option<String>,
+    #[command(flatten)]
+    key: KeyOptions,
     /// Replace the film if it is there
     #[arg(long)]
     force: bool,
@@ -62,9 +61,9 @@ pub struct Pack {
 
 impl Pack {
     pub fn run(self) -> Status {
-        let key = match key::given(self.key.as_deref()) {
+        let key = match self.key.key() {
             Ok(key) => key,
-            Err(status) => return status,
+            Err(error) => return report_error(error),
         };
         let (video, audio) = (Source::named(&self.video), self.audio.as_deref().map(Source::named));
         let is_input = |source: &Source| source.origin == Origin::StandardInput;

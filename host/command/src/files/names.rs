@@ -3,7 +3,66 @@
 use std::fmt::{self, Write};
 use std::path::Path;
 
+use clap::Args;
+use usm::Header;
+
 use crate::output::text::{PIECE, Text, is_plain};
+
+/// How the files of a film are called.
+#[derive(Args)]
+pub struct NameOption {
+    /// The names of files: by the film's own name (film), by that of its file (file), or by a template in which {film} and
+    /// {file} stand for them. Endings are added
+    #[arg(long = "name", value_name = "NAME", default_value = "film", value_parser = name_by)]
+    by: NameBy,
+}
+
+#[derive(Clone)]
+enum NameBy {
+    Film,
+    File,
+    Template(String),
+}
+
+fn name_by(word: &str) -> Result<NameBy, String> {
+    match word {
+        "film" => Ok(NameBy::Film),
+        "file" => Ok(NameBy::File),
+        template if template.contains("{film}") || template.contains("{file}") => {
+            Ok(NameBy::Template(template.to_string()))
+        }
+        _ => Err("it is neither film nor file, nor a template with {film} or {file}".to_string()),
+    }
+}
+
+impl NameOption {
+    /// The name of a film's files, without an ending.
+    pub fn of(&self, label: &Path, header: &Header) -> String {
+        let film = || header.name.as_deref().and_then(safe).unwrap_or_else(|| stem(label));
+        match &self.by {
+            NameBy::Film => film(),
+            NameBy::File => stem(label),
+            NameBy::Template(template) => {
+                // What a name holds is not a part of the template: one pass puts both in.
+                let mut name = String::new();
+                let mut rest = template.as_str();
+                while let Some(at) = rest.find('{') {
+                    name.push_str(&rest[..at]);
+                    rest = &rest[at..];
+                    let (word, value) = match rest {
+                        _ if rest.starts_with("{film}") => ("{film}", film()),
+                        _ if rest.starts_with("{file}") => ("{file}", stem(label)),
+                        _ => ("{", "{".to_string()),
+                    };
+                    name.push_str(&value);
+                    rest = &rest[word.len()..];
+                }
+                name.push_str(rest);
+                made_safe(&name).unwrap_or_else(|| stem(label))
+            }
+        }
+    }
+}
 
 /// The bytes of the longest name that is made: an ending and a temporary one's additions fit a file's name with it.
 const LONGEST: usize = 180;
@@ -18,8 +77,14 @@ pub fn safe(name: &[u8]) -> Option<String> {
         Some(dot) if dot > 0 => &last.0[..dot],
         _ => &last.0,
     };
-    let trimmed = stem.trim_matches([' ', '.']);
-    let mut safe: String = trimmed.chars().map(|character| if is_safe(character) { character } else { '_' }).collect();
+    made_safe(stem)
+}
+
+/// The same of a name that has neither folders nor an ending.
+fn made_safe(name: &str) -> Option<String> {
+    let trimmed = name.trim_matches([' ', '.']);
+    let is_kept = |character: char| is_safe(character) && !matches!(character, '/' | '\\');
+    let mut safe: String = trimmed.chars().map(|character| if is_kept(character) { character } else { '_' }).collect();
     if safe.starts_with('-') {
         safe.replace_range(..1, "_");
     }

@@ -20,6 +20,9 @@ pub struct OutputOptions {
     /// Put the files in this folder, which is made if it is not there
     #[arg(long, short, value_name = "DIR")]
     output: Option<PathBuf>,
+    /// With -o, keep the folders of films below the folders that are named
+    #[arg(long, requires = "output")]
+    tree: bool,
     /// Replace files that are there
     #[arg(long, conflicts_with = "skip_existing")]
     force: bool,
@@ -34,9 +37,23 @@ pub struct OutputOptions {
     pub quiet: bool,
 }
 
+impl OutputOptions {
+    /// Whether files that are there are replaced.
+    pub fn force(&self) -> bool {
+        self.force
+    }
+
+    /// Whether files are on the disk before they get their names.
+    pub fn is_synced(&self) -> bool {
+        !self.no_sync
+    }
+}
+
 /// The files of a run.
 pub struct Targets {
     folder: Option<PathBuf>,
+    /// The folders of films below those that are named, where they are kept.
+    tree: HashMap<PathBuf, PathBuf>,
     force: bool,
     skip_existing: bool,
     is_synced: bool,
@@ -70,8 +87,10 @@ impl Targets {
         if let Some(folder) = &folder {
             make_folder(folder)?;
         }
+        let below = |source: &Source| Some((source.label.clone(), source.folder_below()?));
         Ok(Targets {
             folder,
+            tree: if options.tree { sources.iter().filter_map(below).collect() } else { HashMap::new() },
             force: options.force,
             skip_existing: options.skip_existing,
             is_synced: !options.no_sync,
@@ -88,7 +107,11 @@ impl Targets {
     /// A file of a film, by its name: in the folder of the run, or beside the film.
     pub fn target(&self, label: &Path, name: &str) -> PathBuf {
         let beside = label.parent().filter(|folder| !folder.as_os_str().is_empty()).unwrap_or(Path::new("."));
-        self.folder.as_deref().unwrap_or(beside).join(name)
+        match (&self.folder, self.tree.get(label)) {
+            (None, _) => beside.join(name),
+            (Some(folder), None) => folder.join(name),
+            (Some(folder), Some(below)) => folder.join(below).join(name),
+        }
     }
 
     /// Claims files for a film, before any of their bytes is written. None may be another's of this run, and none may be
@@ -97,6 +120,11 @@ impl Targets {
         let mut made = self.made();
         let mut places = Vec::new();
         for target in targets {
+            if self.tree.contains_key(label)
+                && let Some(folder) = target.parent()
+            {
+                make_folder(folder)?;
+            }
             let place = whole(target).map_err(|error| Error::with(target, error))?;
             if let Some(other) = made.claimed.get(&place) {
                 return Err(Error::with(target, format!("this run writes it for {}", Shown::path(other))));

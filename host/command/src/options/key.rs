@@ -1,25 +1,70 @@
-//! A key as it is typed.
+//! Keys as they are typed, and where they come from.
 
-use crate::output::error::Status;
-use crate::output::report;
+use std::env;
+use std::fs::File;
+use std::io::Read;
+use std::path::{Path, PathBuf};
+
+use clap::Args;
+
 use crate::output::text::Shown;
+use crate::output::{Error, Status, report};
+
+/// What every command that takes a key takes.
+#[derive(Args)]
+pub struct KeyOptions {
+    /// The key, 1 to 16 hex digits. Without it and --key-file, the variable USM_KEY gives the key, if it is set
+    #[arg(long, short, value_name = "KEY", conflicts_with = "key_file")]
+    key: Option<String>,
+    /// Read the key from a file, so that it stands on no command line
+    #[arg(long, value_name = "FILE")]
+    key_file: Option<PathBuf>,
+}
+
+/// No file of a key is longer.
+const MOST: u64 = 4096;
+
+impl KeyOptions {
+    /// The key, if there is one. A note on it is printed.
+    pub fn key(&self) -> Result<Option<u64>, Error> {
+        if let Some(word) = &self.key {
+            let wrong = |why| Error::System(format!("--key {} is {why}", Shown::bytes(word.as_bytes())));
+            let key = typed(word).map_err(wrong)?;
+            if let Some(note) = &key.note {
+                report(Status::Success, &format!("note: {note}"));
+            }
+            return Ok(Some(key.number));
+        }
+        if let Some(path) = &self.key_file {
+            return secret(&text_of(path)?).map(Some).map_err(|why| Error::with(path, format!("it holds {why}")));
+        }
+        match env::var_os("USM_KEY") {
+            Some(word) => {
+                let word = word.to_string_lossy();
+                secret(&word).map(Some).map_err(|why| Error::System(format!("USM_KEY holds {why}")))
+            }
+            None => Ok(None),
+        }
+    }
+}
+
+fn text_of(path: &Path) -> Result<String, Error> {
+    let mut text = String::new();
+    let read = File::open(path).and_then(|file| file.take(MOST).read_to_string(&mut text));
+    read.map_err(|error| Error::with(path, error))?;
+    Ok(text)
+}
+
+/// A key that is not to be shown.
+fn secret(text: &str) -> Result<u64, String> {
+    typed(text.trim()).map(|key| key.number).map_err(|_| format!("no key: {RULE}"))
+}
 
 /// A key, and what its word may have been meant for.
 #[derive(Clone, Debug, PartialEq, Eq)]
 pub struct Key {
     pub number: u64,
     pub note: Option<String>,
-}
-
-/// The key that `--key` gives, if it gives one. Errors and notes are printed.
-pub fn given(word: Option<&str>) -> Result<Option<u64>, Status> {
-    let Some(word) = word else { return Ok(None) };
-    let key = typed(word)
-        .map_err(|why| report(Status::Failed, &format!("--key {} is {why}", Shown::bytes(word.as_bytes()))))?;
-    if let Some(note) = &key.note {
-        report(Status::Success, &format!("note: {note}"));
-    }
-    Ok(Some(key.number))
 }
 
 const RULE: &str = "a key is 1 to 16 hex digits, with or without 0x";

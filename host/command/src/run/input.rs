@@ -31,14 +31,14 @@ impl Source {
             Origin::Named => File::open(&self.label),
             Origin::StandardInput => io::stdin().as_fd().try_clone_to_owned().map(File::from),
             Origin::Below(folder) => open_below(folder, &self.label),
-            Origin::Followed => open_at_once(&self.label, OFlags::empty()),
+            Origin::Followed(_) => open_at_once(&self.label, OFlags::empty()),
             Origin::Unreadable(why) => return Err(Error::System(why.clone())),
         };
         let mut file = file.map_err(Error::io)?;
         let metadata = file.metadata().map_err(Error::io)?;
         if !metadata.is_file() {
             return match self.origin {
-                Origin::Below(_) | Origin::Followed => Err(Error::System("it is not a file any more".to_string())),
+                Origin::Below(_) | Origin::Followed(_) => Err(Error::System("it is not a file any more".to_string())),
                 _ => Ok(Input::Pipe(file)),
             };
         }

@@ -62,7 +62,7 @@ pub enum Origin {
     /// A file found in a folder, which is a path of the command line. No link leads to it.
     Below(PathBuf),
     /// The same, with links followed.
-    Followed,
+    Followed(PathBuf),
     StandardInput,
     /// Nothing can be read, for this reason.
     Unreadable(String),
@@ -71,13 +71,23 @@ pub enum Origin {
 impl Source {
     fn new(label: PathBuf, origin: Origin) -> Source {
         let metadata = match origin {
-            Origin::Named | Origin::Below(_) | Origin::Followed => fs::metadata(&label).ok(),
+            Origin::Named | Origin::Below(_) | Origin::Followed(_) => fs::metadata(&label).ok(),
             _ => None,
         };
         let file = metadata.filter(fs::Metadata::is_file);
         let is_empty = matches!(origin, Origin::Unreadable(_));
         let length = file.as_ref().map(fs::Metadata::len).or(is_empty.then_some(0));
         Source { id: file.as_ref().map(FileId::of), length, label, origin }
+    }
+
+    /// Its folder below the one that was named, where it was found in one.
+    pub fn folder_below(&self) -> Option<PathBuf> {
+        match &self.origin {
+            Origin::Below(folder) | Origin::Followed(folder) => {
+                self.label.strip_prefix(folder).ok()?.parent().map(Path::to_path_buf)
+            }
+            _ => None,
+        }
     }
 
     /// A path of the command line, or standard input.
@@ -154,7 +164,8 @@ fn film_in(folder: &Path, entry: &DirEntry, options: &RunOptions, suffix: &str) 
         note(path, &format!("passed over: it is {}", kind(entry.file_type())));
         return None;
     }
-    let origin = if options.follow_links { Origin::Followed } else { Origin::Below(folder.to_path_buf()) };
+    let folder = folder.to_path_buf();
+    let origin = if options.follow_links { Origin::Followed(folder) } else { Origin::Below(folder) };
     Some(Source::new(path.to_path_buf(), origin))
 }
 

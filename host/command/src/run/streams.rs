@@ -2,6 +2,7 @@
 
 use std::fs::File;
 use std::io::{BufWriter, Write};
+use std::path::Path;
 
 use rustix::fs::copy_file_range;
 use usm::{ChunkHead, ChunkKind, Reader, Stream};
@@ -17,21 +18,71 @@ const GATHERED: usize = 32 << 10;
 /// Payloads that are shorter are not worth a call to copy them.
 const COPIED: usize = 16 << 10;
 
-/// Writes both streams to files that are begun: video to the first, audio to the second where there is one. Gives their
-/// sizes.
+/// Which file a payload goes to, by the stream and the channel of its chunk; none where it is left out.
+pub type Routes<'r> = &'r dyn Fn(Stream, u8) -> Option<usize>;
+
+/// Writes the streams to files that are begun, each payload to the one that its route says. Gives the files' sizes.
 pub fn write(
     reader: &mut Reader<&mut Input>,
     key: Option<u64>,
+    routes: Routes,
     staged: &mut StagedFiles,
     meter: &Meter,
-) -> Result<[usize; 2], Error> {
+) -> Result<Vec<usize>, Error> {
+    let mut files = staged.files();
+    let mut outputs: Vec<Output> = files.iter_mut().map(|(file, target)| Output::new(file, target)).collect();
     match (key, &**reader.get_ref()) {
-        (None, Input::File { .. }) => copy(reader, staged, meter),
-        _ => {
-            let mut sizes = [0; 2];
-            write_parts(reader, key, staged, &mut sizes, meter)?;
-            Ok(sizes)
+        (None, Input::File { .. }) => copy(reader, routes, &mut outputs, meter)?,
+        _ => write_parts(reader, key, routes, &mut outputs, meter)?,
+    }
+    outputs.into_iter().map(Output::end).collect()
+}
+
+/// Writes one stream to a writer. Nothing can be taken back there, so that all chunks are looked at first.
+pub fn write_one(
+    reader: &mut Reader<&mut Input>,
+    key: Option<u64>,
+    stream: Stream,
+    to: &mut impl Write,
+) -> Result<(), Error> {
+    while let Some(part) = reader.next_part(key)? {
+        if part.stream == stream {
+            to.write_all(part.bytes).map_err(Error::Output)?;
         }
+    }
+    Ok(())
+}
+
+/// A file that is being written.
+struct Output<'f> {
+    writer: BufWriter<&'f mut File>,
+    target: &'f Path,
+    size: usize,
+}
+
+impl<'f> Output<'f> {
+    fn new(file: &'f mut File, target: &'f Path) -> Output<'f> {
+        Output { writer: BufWriter::with_capacity(GATHERED, file), target, size: 0 }
+    }
+
+    fn write(&mut self, bytes: &[u8]) -> Result<(), Error> {
+        self.size += bytes.len();
+        self.writer.write_all(bytes).map_err(|error| Error::with(self.target, error))
+    }
+
+    /// Copies as much of a payload as the kernel can.
+    fn copy(&mut self, input: &Input, chunk: &ChunkHead) -> Result<usize, Error> {
+        let flushed = self.writer.flush();
+        let copied = flushed.and_then(|()| copy_payload(input, chunk, self.writer.get_ref()));
+        let copied = copied.map_err(|error| Error::with(self.target, error))?;
+        self.size += copied;
+        Ok(copied)
+    }
+
+    /// Has all bytes in the file.
+    fn end(mut self) -> Result<usize, Error> {
+        self.writer.flush().map_err(|error| Error::with(self.target, error))?;
+        Ok(self.size)
     }
 }
 
@@ -39,68 +90,45 @@ pub fn write(
 fn write_parts(
     reader: &mut Reader<&mut Input>,
     key: Option<u64>,
-    staged: &mut StagedFiles,
-    sizes: &mut [usize; 2],
+    routes: Routes,
+    outputs: &mut [Output],
     meter: &Meter,
 ) -> Result<(), Error> {
-    let mut files = staged.files();
-    let mut writers: Vec<(BufWriter<&mut File>, _)> =
-        files.iter_mut().map(|(file, target)| (BufWriter::with_capacity(GATHERED, &mut **file), *target)).collect();
     while let Some(part) = reader.next_part(key)? {
-        let number = number(part.stream);
-        let Some((writer, target)) = writers.get_mut(number) else { continue };
-        writer.write_all(part.bytes).map_err(|error| Error::with(target, error))?;
-        sizes[number] += part.bytes.len();
+        if let Some(number) = routes(part.stream, part.channel) {
+            outputs[number].write(part.bytes)?;
+        }
         meter.reach(reader.place());
-    }
-    for (mut writer, target) in writers {
-        writer.flush().map_err(|error| Error::with(target, error))?;
     }
     Ok(())
 }
 
-fn number(stream: Stream) -> usize {
-    match stream {
-        Stream::Video => 0,
-        Stream::Audio => 1,
-    }
-}
-
 /// As they are stored, the streams need not pass through this program: the kernel copies them. Short payloads are
 /// gathered all the same, because a call for each costs more.
-fn copy(reader: &mut Reader<&mut Input>, staged: &mut StagedFiles, meter: &Meter) -> Result<[usize; 2], Error> {
-    let mut sizes = [0; 2];
-    let mut files = staged.files();
-    let mut writers: Vec<(BufWriter<&mut File>, _)> =
-        files.iter_mut().map(|(file, target)| (BufWriter::with_capacity(GATHERED, &mut **file), *target)).collect();
+fn copy(reader: &mut Reader<&mut Input>, routes: Routes, outputs: &mut [Output], meter: &Meter) -> Result<(), Error> {
     while let Some(chunk) = reader.next_chunk()? {
-        let number = match chunk.kind {
-            ChunkKind::Video => 0,
-            ChunkKind::Audio => 1,
+        let stream = match chunk.kind {
+            ChunkKind::Video => Stream::Video,
+            ChunkKind::Audio => Stream::Audio,
             _ => continue,
         };
-        let Some((writer, target)) = writers.get_mut(number) else { continue };
+        let Some(number) = routes(stream, chunk.channel) else { continue };
+        let output = &mut outputs[number];
         let mut copied = 0;
         if chunk.length >= COPIED {
-            let copy = writer.flush().and_then(|()| copy_payload(reader.get_ref(), &chunk, writer.get_ref()));
-            copied = copy.map_err(|error| Error::with(target, error))?;
+            copied = output.copy(reader.get_ref(), &chunk)?;
         }
         // Where the file system can't copy, or not between these two, the rest goes through the window.
         while copied < chunk.length {
             let bytes = reader.payload_from(&chunk, copied)?;
-            writer.write_all(bytes).map_err(|error| Error::with(target, error))?;
+            output.write(bytes)?;
             copied += bytes.len();
         }
-        sizes[number] += chunk.length;
         meter.reach(reader.place());
     }
-    for (mut writer, target) in writers {
-        writer.flush().map_err(|error| Error::with(target, error))?;
-    }
-    Ok(sizes)
+    Ok(())
 }
 
-/// Copies as much of a payload as the kernel can.
 fn copy_payload(input: &Input, chunk: &ChunkHead, to: &File) -> std::io::Result<usize> {
     use rustix::io::Errno;
     let Input::File { file, start, .. } = input else { return Ok(0) };

@@ -10,6 +10,7 @@ mod keys;
 mod list;
 mod memory;
 mod moves;
+mod operators;
 mod output;
 mod pack;
 mod profile;
