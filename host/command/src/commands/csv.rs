@@ -11,7 +11,7 @@ use crate::files::targets::{Claim, OutputOptions, Targets};
 use crate::options::limit::{Limit, LimitOption, place};
 use crate::options::reading::TableOptions;
 use crate::output::csv::{SpreadsheetOption, for_spreadsheets};
-use crate::output::json::{About, AsHex, AsText, as_string};
+use crate::output::json::{About, AsHex, AsText};
 use crate::output::text::Shown;
 use crate::output::{Error, Output, Status, print_to, report_error};
 use crate::run::input::make_room;
@@ -119,7 +119,7 @@ impl Run<'_> {
     ) -> Result<(), Error> {
         if self.options.films.options.json {
             let files = files.iter().map(|(path, bytes)| Written::of(path, *bytes)).collect();
-            return output.object(&Object { about: About::new(label), files });
+            return output.object(&Object { about: About::new("csv", label), files });
         }
         if self.options.output.quiet {
             return Ok(());
@@ -163,7 +163,6 @@ struct Object<'a> {
 struct Written<'a> {
     path: AsText<'a>,
     path_hex: AsHex<'a>,
-    #[serde(serialize_with = "as_string")]
     bytes: usize,
 }
 

@@ -12,7 +12,7 @@ use crate::files::names::NameOption;
 use crate::files::targets::{Claim, OutputOptions, Targets};
 use crate::options::key::KeyOptions;
 use crate::options::reading::ReadingOptions;
-use crate::output::json::{About, AsHex, AsText, as_string};
+use crate::output::json::{About, AsHex, AsText};
 use crate::output::text::Shown;
 use crate::output::{Error, Output, Status, print_to, report_error};
 use crate::run::input::Input;
@@ -157,7 +157,7 @@ impl Extraction<'_> {
 
     fn print_skipped(&self, label: &Path, output: &mut Output) -> Result<(), Error> {
         if self.options.films.options.json {
-            return output.object(&Skipped { about: About::new(label), skipped: true });
+            return output.object(&Skipped { about: About::new("skipped", label), why: "its files are there" });
         }
         if !self.options.output.quiet {
             output.gap()?;
@@ -184,7 +184,7 @@ fn channels_of(reader: &mut Reader<&mut Input>) -> Result<BTreeSet<u8>, Error> {
 struct Skipped<'a> {
     #[serde(flatten)]
     about: About<'a>,
-    skipped: bool,
+    why: &'static str,
 }
 
 fn print_files(label: &Path, files: &[StreamFile], sizes: &[usize], output: &mut Output) -> Result<(), Error> {
@@ -214,8 +214,7 @@ struct Extracted<'a> {
 struct StreamObject<'a> {
     path: AsText<'a>,
     path_hex: AsHex<'a>,
-    #[serde(serialize_with = "as_string")]
-    size: usize,
+    bytes: usize,
     #[serde(skip_serializing_if = "Option::is_none")]
     channel: Option<u8>,
 }
@@ -223,7 +222,7 @@ struct StreamObject<'a> {
 impl<'a> Extracted<'a> {
     fn of(label: &'a Path, name: Option<&'a [u8]>, files: &'a [StreamFile], sizes: &[usize]) -> Extracted<'a> {
         let mut extracted = Extracted {
-            about: About::new(label),
+            about: About::new("extracted", label),
             name: name.map(AsText),
             name_hex: name.map(AsHex),
             video: None,
@@ -232,7 +231,7 @@ impl<'a> Extracted<'a> {
         };
         for (file, &size) in files.iter().zip(sizes) {
             let path = file.path.as_os_str().as_encoded_bytes();
-            let object = StreamObject { path: AsText(path), path_hex: AsHex(path), size, channel: file.channel };
+            let object = StreamObject { path: AsText(path), path_hex: AsHex(path), bytes: size, channel: file.channel };
             match (file.stream, file.channel) {
                 (Stream::Video, _) => extracted.video = Some(object),
                 (Stream::Audio, None) => extracted.audio = Some(object),

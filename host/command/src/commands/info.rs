@@ -8,7 +8,7 @@ use serde::Serialize;
 use usm::{ChunkHead, ChunkKind, Format, Header, Mask, Reader};
 
 use crate::options::reading::ReadingOptions;
-use crate::output::json::{About, AsHex, AsText, as_some_string, as_string};
+use crate::output::json::{About, AsHex, AsText};
 use crate::output::text::{CUT, Shown};
 use crate::output::{Error, Status};
 use crate::output::{Output, print_to, report_error};
@@ -206,7 +206,6 @@ fn shows(video: Option<usize>, audio: Option<usize>) -> String {
 struct Object<'a> {
     #[serde(flatten)]
     about: About<'a>,
-    #[serde(serialize_with = "as_string")]
     bytes: usize,
     name: Option<AsText<'a>>,
     name_hex: Option<AsHex<'a>>,
@@ -219,11 +218,9 @@ struct Object<'a> {
 #[derive(Serialize)]
 struct Stream {
     codec: Option<u32>,
-    kind: String,
-    #[serde(serialize_with = "as_string")]
-    size: usize,
+    format: String,
+    bytes: usize,
     closed: bool,
-    #[serde(serialize_with = "as_some_string")]
     shows_key_at: Option<usize>,
 }
 
@@ -231,16 +228,14 @@ struct Stream {
 struct Group {
     kind: String,
     channel: u8,
-    #[serde(serialize_with = "as_string")]
     count: usize,
-    #[serde(serialize_with = "as_string")]
     bytes: usize,
 }
 
 impl<'a> Object<'a> {
     fn of(label: &'a Path, bytes: usize, header: &'a Header, facts: &Facts) -> Object<'a> {
         Object {
-            about: About::new(label),
+            about: About::new("film", label),
             bytes,
             name: header.name.as_deref().map(AsText),
             name_hex: header.name.as_deref().map(AsHex),
@@ -265,8 +260,8 @@ impl Stream {
     fn of<Kind: std::fmt::Display>(format: &Format<Kind>, facts: StreamFacts) -> Stream {
         Stream {
             codec: format.codec,
-            kind: format.kind.to_string(),
-            size: facts.size,
+            format: format.kind.to_string(),
+            bytes: facts.size,
             closed: facts.end == End::Closed,
             shows_key_at: facts.shows_key,
         }

@@ -7,7 +7,7 @@ use serde::Serialize;
 use usm::{ChunkKind, Mask, Reader, Reading};
 
 use crate::options::key::{self, Key};
-use crate::output::json::{About, as_string};
+use crate::output::json::{About, Kind};
 use crate::output::text::Shown;
 use crate::output::{Error, Status};
 use crate::output::{Output, print_to, report, report_error};
@@ -79,7 +79,7 @@ impl Task for Run {
         let mut printer = turn.take();
         if self.json {
             let same_streams = differs.is_none();
-            return printer.object(&FilmObject { about: About::new(label), same_streams, differs });
+            return printer.object(&FilmObject { about: About::new("film-keys", label), same_streams, differs });
         }
         let file = Shown::path(label);
         match differs {
@@ -98,7 +98,7 @@ impl Task for Run {
 struct Difference {
     #[serde(rename = "differs_in")]
     stream: &'static str,
-    #[serde(rename = "differs_at", serialize_with = "as_string")]
+    #[serde(rename = "differs_at")]
     at: usize,
 }
 
@@ -154,6 +154,7 @@ impl Answer {
 
     fn object(&self) -> Object {
         Object {
+            kind: Kind::new("keys"),
             first: format!("{:016X}", self.first),
             second: format!("{:016X}", self.second),
             same_key: self.first == self.second,
@@ -188,6 +189,8 @@ impl Answer {
 
 #[derive(Serialize)]
 struct Object {
+    #[serde(flatten)]
+    kind: Kind,
     first: String,
     second: String,
     same_key: bool,

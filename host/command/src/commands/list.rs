@@ -10,7 +10,7 @@ use usm::{ChunkHead, Reader};
 
 use crate::options::reading::ReadingOptions;
 use crate::output::csv::{CsvLines, SpreadsheetOption, field};
-use crate::output::json::{About, as_string};
+use crate::output::json::About;
 use crate::output::text::Shown;
 use crate::output::{Error, Status};
 use crate::output::{Output, print_to, report_error};
@@ -67,7 +67,7 @@ impl Task for List {
         reader.rewind()?;
         let mut printer = turn.take();
         if self.films.options.json {
-            printer.object(&Object { about: About::new(label), chunks: InOrder::of(&mut reader) })
+            printer.object(&Object { about: About::new("chunks", label), chunks: InOrder::of(&mut reader) })
         } else if self.csv {
             print_lines(label, &mut reader, CsvLines::new(&mut printer, self.spreadsheet.spreadsheet))
         } else {
@@ -135,12 +135,10 @@ impl Serialize for InOrder<'_, '_> {
 
 #[derive(Serialize)]
 struct Record {
-    #[serde(serialize_with = "as_string")]
     start: usize,
     kind: String,
     #[serde(rename = "type")]
     data_type: u8,
     channel: u8,
-    #[serde(serialize_with = "as_string")]
     length: usize,
 }

@@ -12,7 +12,7 @@ use crate::files::identity::FileId;
 use crate::files::staged::{Replacing, StagedFiles};
 use crate::options::codecs::Codecs;
 use crate::options::key::KeyOptions;
-use crate::output::json::{About, FailedFilm, as_some_string, as_string};
+use crate::output::json::{About, FailedFilm};
 use crate::output::text::Shown;
 use crate::output::{Error, Status};
 use crate::output::{Output, print_to, report, report_error, write_all};
@@ -115,7 +115,7 @@ impl Pack {
 
     fn print(&self, sizes: &Sizes, output: &mut Output) -> Result<(), Error> {
         if self.json {
-            return output.object(&Packed { about: About::new(&self.output), sizes });
+            return output.object(&Packed { about: About::new("packed", &self.output), sizes });
         }
         if !self.quiet {
             let audio = sizes.audio.map_or("no audio".to_string(), |audio| format!("audio {audio}"));
@@ -138,11 +138,11 @@ impl Pack {
 
 #[derive(Serialize)]
 struct Sizes {
-    #[serde(rename = "bytes", serialize_with = "as_string")]
+    #[serde(rename = "bytes")]
     film: usize,
-    #[serde(serialize_with = "as_string")]
+    #[serde(rename = "video_bytes")]
     video: usize,
-    #[serde(serialize_with = "as_some_string")]
+    #[serde(rename = "audio_bytes")]
     audio: Option<usize>,
 }
 

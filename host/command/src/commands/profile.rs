@@ -4,7 +4,7 @@ use clap::Args;
 use serde::Serialize;
 use usm::Offence;
 
-use crate::output::json::{About, as_some_string};
+use crate::output::json::About;
 use crate::output::text::Shown;
 use crate::output::{Error, Status};
 use crate::output::{print_to, report_error};
@@ -41,7 +41,7 @@ impl Task for Profile {
             printer.raise(Status::Refused);
         }
         if self.films.options.json {
-            return printer.object(&Object { about: About::new(label), answer: Answer::of(offence) });
+            return printer.object(&Object { about: About::new("profile", label), answer: Answer::of(offence) });
         }
         let file = Shown::path(label);
         match offence {
@@ -66,7 +66,6 @@ struct Object<'a> {
 struct Answer {
     plain: bool,
     rule: Option<u8>,
-    #[serde(serialize_with = "as_some_string")]
     place: Option<usize>,
     reason: Option<String>,
 }

@@ -10,7 +10,7 @@ use usm::{Share, Tenant};
 
 use crate::options::tenants;
 use crate::output::csv::{CsvLines, SpreadsheetOption, field};
-use crate::output::json::About;
+use crate::output::json::{About, Kind};
 use crate::output::text::Shown;
 use crate::output::{Error, Output, Status, print_to, report_error};
 use crate::run::sources::Films;
@@ -95,7 +95,7 @@ impl Task for Run<'_> {
         self.totals().add(&shares);
         if self.options.films.options.json {
             let shares = shares.iter().map(Line::of).collect();
-            return printer.object(&Object { about: About::new(label), shares });
+            return printer.object(&Object { about: About::new("shares", label), shares });
         }
         if self.options.csv {
             return if self.options.totals { Ok(()) } else { self.print_lines(label, &shares, &mut printer) };
@@ -190,8 +190,13 @@ impl Totals {
     }
 
     fn object(&self) -> TotalsObject {
-        let total = |(tenant, bytes): (&u64, &u64)| Total { tenant: tenant.to_string(), bytes: bytes.to_string() };
-        TotalsObject { films: self.films, failed: self.failed, totals: self.bytes.iter().map(total).collect() }
+        let total = |(tenant, bytes): (&u64, &u64)| Total { tenant: tenant.to_string(), bytes: *bytes };
+        TotalsObject {
+            kind: Kind::new("totals"),
+            films: self.films,
+            failed: self.failed,
+            totals: self.bytes.iter().map(total).collect(),
+        }
     }
 }
 
@@ -206,17 +211,19 @@ struct Object<'a> {
 struct Line {
     tenant: String,
     group: String,
-    bytes: String,
+    bytes: u64,
 }
 
 impl Line {
     fn of(share: &Share) -> Line {
-        Line { tenant: share.tenant.to_string(), group: share.group.to_string(), bytes: share.bytes.to_string() }
+        Line { tenant: share.tenant.to_string(), group: share.group.to_string(), bytes: share.bytes }
     }
 }
 
 #[derive(Serialize)]
 struct TotalsObject {
+    #[serde(flatten)]
+    kind: Kind,
     films: usize,
     failed: usize,
     totals: Vec<Total>,
@@ -225,5 +232,5 @@ struct TotalsObject {
 #[derive(Serialize)]
 struct Total {
     tenant: String,
-    bytes: String,
+    bytes: u64,
 }

@@ -13,7 +13,7 @@ use crate::commands::csv::text_of;
 use crate::options::limit::{LimitOption, place};
 use crate::options::reading::TableOptions;
 use crate::output::csv::{SpreadsheetOption, for_spreadsheets, is_plain_text};
-use crate::output::json::{self, About, AsHex, AsText, as_string};
+use crate::output::json::{self, About, AsHex, AsText};
 use crate::output::text::{CUT, Hex, Shown};
 use crate::output::{Error, Status};
 use crate::output::{Output, print_to, report, report_error};
@@ -72,7 +72,7 @@ impl Task for Table {
         }
         let tables = self.placed(bytes)?;
         if self.films.options.json {
-            let object = Object { about: About::new(label), tables: &tables };
+            let object = Object { about: About::new("tables", label), tables: &tables };
             limit.take(json::size_within(&object, limit.left()).ok_or_else(|| limit.exceeded())?)?;
             return turn.take().object(&object);
         }
@@ -158,7 +158,6 @@ impl Serialize for Placed<'_> {
         struct Whole<'a> {
             #[serde(skip_serializing_if = "Option::is_none")]
             block: Option<AsText<'a>>,
-            #[serde(serialize_with = "as_string")]
             place: usize,
             columns: Vec<Named<'a>>,
             rows: Rows<'a>,

@@ -57,18 +57,6 @@ impl Write for Counter {
     }
 }
 
-/// A 64-bit number as a string: not every reader of JSON keeps all its digits.
-pub fn as_string<S: Serializer>(number: &usize, serializer: S) -> Result<S::Ok, S::Error> {
-    serializer.collect_str(number)
-}
-
-pub fn as_some_string<S: Serializer>(number: &Option<usize>, serializer: S) -> Result<S::Ok, S::Error> {
-    match number {
-        Some(number) => serializer.collect_str(number),
-        None => serializer.serialize_none(),
-    }
-}
-
 /// Bytes as text, in an object.
 pub struct AsText<'a>(pub &'a [u8]);
 
@@ -87,17 +75,35 @@ impl Serialize for AsHex<'_> {
     }
 }
 
-/// Which film an object is about: the file's name as text and as hex.
+/// The version of the schema that docs/JSON.md says.
+const SCHEMA: u32 = 1;
+
+/// What every object begins with: what it is, and by which schema.
+#[derive(Serialize)]
+pub struct Kind {
+    kind: &'static str,
+    schema: u32,
+}
+
+impl Kind {
+    pub fn new(kind: &'static str) -> Kind {
+        Kind { kind, schema: SCHEMA }
+    }
+}
+
+/// What an object is, and which film it is about: the file's name as text and as hex.
 #[derive(Serialize)]
 pub struct About<'a> {
+    #[serde(flatten)]
+    kind: Kind,
     file: AsText<'a>,
     file_hex: AsHex<'a>,
 }
 
 impl<'a> About<'a> {
-    pub fn new(path: &'a Path) -> About<'a> {
+    pub fn new(kind: &'static str, path: &'a Path) -> About<'a> {
         let bytes = path.as_os_str().as_encoded_bytes();
-        About { file: AsText(bytes), file_hex: AsHex(bytes) }
+        About { kind: Kind::new(kind), file: AsText(bytes), file_hex: AsHex(bytes) }
     }
 }
 
@@ -115,7 +121,6 @@ pub struct FailedFilm<'a> {
 #[derive(Serialize)]
 struct Refused {
     number: u8,
-    #[serde(serialize_with = "as_string")]
     place: usize,
     reason: String,
 }
@@ -130,7 +135,7 @@ impl<'a> FailedFilm<'a> {
             Error::System(what) => (None, Some(what.as_str())),
             Error::Output(_) => (None, None),
         };
-        FailedFilm { about: About::new(path), refused, error }
+        FailedFilm { about: About::new("failure", path), refused, error }
     }
 }
 

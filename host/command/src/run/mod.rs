@@ -2,6 +2,8 @@
 
 pub mod gate;
 pub mod input;
+pub mod lists;
+pub mod outcomes;
 pub mod progress;
 pub mod rewrite;
 pub mod sources;

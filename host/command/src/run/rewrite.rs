@@ -7,10 +7,10 @@ use usm::Reason;
 
 use crate::files::names::stem;
 use crate::files::targets::{Claim, OutputOptions, Targets};
-use crate::output::json::{About, AsHex, AsText, as_string};
+use crate::output::json::{About, AsHex, AsText};
 use crate::output::text::Shown;
 use crate::output::{Error, Output, Status, print_to, report_error};
-use crate::run::sources::{Films, sources};
+use crate::run::sources::Films;
 use crate::run::workers::{self, Film, Task, Turn, WholeFilm};
 
 /// A way to make a film of a film.
@@ -38,7 +38,7 @@ pub struct Dropped {
 
 /// Makes a film of each.
 pub fn run<R: Rewrite>(rewrite: R, films: &Films, options: &OutputOptions) -> Status {
-    let sources = match sources(&films.files, &films.options, R::SUFFIX) {
+    let sources = match films.sources_without(R::SUFFIX) {
         Ok(sources) => sources,
         Err(error) => return report_error(error),
     };
@@ -109,7 +109,7 @@ impl<R: Rewrite> Run<R> {
                 Outcome::Written { target, size, dropped } => {
                     output.object(&Object::of(label, target, *size, *dropped))
                 }
-                Outcome::Skipped(why) => output.object(&Skipped { about: About::new(label), skipped: why }),
+                Outcome::Skipped(why) => output.object(&Skipped { about: About::new("skipped", label), why }),
             };
         }
         if self.quiet {
@@ -143,7 +143,6 @@ struct Object<'a> {
     about: About<'a>,
     path: AsText<'a>,
     path_hex: AsHex<'a>,
-    #[serde(serialize_with = "as_string")]
     bytes: usize,
     #[serde(flatten)]
     dropped: Option<DroppedObject>,
@@ -151,7 +150,6 @@ struct Object<'a> {
 
 #[derive(Serialize)]
 struct DroppedObject {
-    #[serde(serialize_with = "as_string")]
     dropped: usize,
     /// The number of the refusal, 0 where there is none.
     cause: u8,
@@ -163,7 +161,7 @@ struct DroppedObject {
 struct Skipped<'a> {
     #[serde(flatten)]
     about: About<'a>,
-    skipped: &'a str,
+    why: &'a str,
 }
 
 impl<'a> Object<'a> {
@@ -174,6 +172,6 @@ impl<'a> Object<'a> {
             cause: cause.map_or(0, |cause| cause.number()),
             reason: cause.map(|cause| cause.to_string()),
         });
-        Object { about: About::new(label), path: AsText(path), path_hex: AsHex(path), bytes, dropped }
+        Object { about: About::new("rewritten", label), path: AsText(path), path_hex: AsHex(path), bytes, dropped }
     }
 }

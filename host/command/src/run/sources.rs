@@ -12,13 +12,17 @@ use walkdir::{DirEntry, WalkDir};
 use crate::files::identity::FileId;
 use crate::output::text::Shown;
 use crate::output::{Error, note};
+use crate::run::lists;
 
 /// What every command that works on films takes.
 #[derive(Args)]
 pub struct Films {
     /// Films, folders of films, or - for standard input
-    #[arg(value_name = "FILE", required = true)]
+    #[arg(value_name = "FILE", required_unless_present = "files_from")]
     pub files: Vec<PathBuf>,
+    /// Take more films from a list, a line for each, or with - from standard input
+    #[arg(long, value_name = "LIST")]
+    files_from: Option<PathBuf>,
     #[command(flatten)]
     pub options: RunOptions,
 }
@@ -35,11 +39,32 @@ pub struct RunOptions {
     /// Follow links to files and folders that stand in a folder
     #[arg(long)]
     pub follow_links: bool,
+    /// At the end, print on standard error how many films were done, refused and failed
+    #[arg(long)]
+    pub summary: bool,
+    /// Write the names of films that were refused or failed to this file, a line for each; --files-from reads it
+    #[arg(long, value_name = "LIST")]
+    pub failed: Option<PathBuf>,
+    /// Lists have a zero byte after each name in place of a line's end
+    #[arg(long)]
+    pub null: bool,
 }
 
 impl Films {
     pub fn sources(&self) -> Result<Vec<Source>, Error> {
-        sources(&self.files, &self.options, "")
+        self.sources_without("")
+    }
+
+    /// The same; in folders, what a command has made by this suffix is passed over.
+    pub fn sources_without(&self, suffix: &str) -> Result<Vec<Source>, Error> {
+        let mut files = self.files.clone();
+        if let Some(list) = &self.files_from {
+            if list.as_os_str() == "-" && files.iter().any(|file| file.as_os_str() == "-") {
+                return Err(Error::System("standard input can't be a list and a film".to_string()));
+            }
+            files.extend(lists::read(list, self.options.null)?);
+        }
+        sources(&files, &self.options, suffix)
     }
 }
 

@@ -14,6 +14,7 @@ use crate::output::text::Shown;
 use crate::output::{self, Error, Output, Status};
 use crate::run::gate::Gate;
 use crate::run::input::{Buffers, Input};
+use crate::run::outcomes::Outcomes;
 use crate::run::progress::{Meter, Progress};
 use crate::run::sources::{RunOptions, Source};
 
@@ -78,7 +79,14 @@ pub fn run(task: &impl Task, sources: &[Source], options: &RunOptions) -> Status
         Ok(output) => output,
         Err(error) => return output::report_error(error),
     };
-    let shared = Shared { turn: 0, output, status: Status::Success, is_closed: false, finishing: BTreeMap::new() };
+    let shared = Shared {
+        turn: 0,
+        output,
+        status: Status::Success,
+        is_closed: false,
+        finishing: BTreeMap::new(),
+        outcomes: Outcomes::default(),
+    };
     let workers = Workers {
         shared: Mutex::new(shared),
         moved: Condvar::new(),
@@ -102,12 +110,13 @@ pub fn run(task: &impl Task, sources: &[Source], options: &RunOptions) -> Status
         work();
     });
     workers.progress.end();
-    let Shared { mut output, status, is_closed, .. } =
+    let Shared { mut output, status, is_closed, outcomes, .. } =
         workers.shared.into_inner().unwrap_or_else(PoisonError::into_inner);
     if is_closed {
         return status;
     }
-    match task.end(&mut output).and_then(|()| output.flush().map_err(Error::Output)) {
+    let ended = task.end(&mut output).and_then(|()| output.flush().map_err(Error::Output));
+    match ended.and_then(|()| outcomes.report(sources, options)) {
         Ok(()) => status,
         Err(error) => status.max(output::report_error(error)),
     }
@@ -147,6 +156,7 @@ struct Shared<'a> {
     is_closed: bool,
     /// What is left to print of films that were done before their turn came.
     finishing: BTreeMap<usize, (&'a Path, Rest<'a>)>,
+    outcomes: Outcomes,
 }
 
 /// What is left to print of a film in its turn: little, and nothing that holds the film.
@@ -305,6 +315,7 @@ impl<'a> Printer<'a, '_> {
 
     fn report(&mut self, label: &Path, error: &Error) {
         self.raise(error.status());
+        self.shared.outcomes.add(label, error);
         match error {
             Error::Refused(refusal) => self.note(label, &refusal.to_string()),
             Error::System(what) => self.note(label, what),

@@ -27,8 +27,8 @@ fn one_table_of_any_file() {
     folder.write("table", &films::table(&[b"a,b", b"c"], &[&[Value::SignedByte(-1), Value::Data(b"\0\xAB")]]));
     folder.usm(&["csv", "--at", "0", "--json", "-o", "out", "table"]).expect(
         0,
-        "{\"file\":\"table\",\"file_hex\":\"7461626c65\",\"files\":[{\"path\":\"out/table.0.csv\",\
-         \"path_hex\":\"6f75742f7461626c652e302e637376\",\"bytes\":\"18\"}]}\n",
+        "{\"kind\":\"csv\",\"schema\":1,\"file\":\"table\",\"file_hex\":\"7461626c65\",\"files\":[{\"path\":\"out/table.0.csv\",\
+         \"path_hex\":\"6f75742f7461626c652e302e637376\",\"bytes\":18}]}\n",
         "",
     );
     assert_eq!(folder.read("out/table.0.csv"), b"\"a,b\",c\r\n-1,00ab\r\n");

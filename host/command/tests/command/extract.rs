@@ -84,7 +84,7 @@ fn a_folder_is_made() {
     assert_eq!((run.status, run.err.as_str()), (0, ""));
     assert_eq!(names(&folder.path("a/b")), ["empty.m2v", "f.m2v", "lark.adx", "lark.m2v"]);
     assert_eq!(folder.read("a/b/f.m2v"), [0; 32]);
-    assert_eq!(folder.read("a/b/empty.m2v"), []);
+    assert!(folder.read("a/b/empty.m2v").is_empty());
 }
 
 #[test]
@@ -198,12 +198,12 @@ fn json_tells_the_files() {
     folder.usm(&["extract", "song.usm", "f.usm", "--json", "-o", "o"]).expect(
         0,
         concat!(
-            r#"{"file":"song.usm","file_hex":"736f6e672e75736d","name":"songs/lark.usm","name_hex":"736f6e67732f6c61726b2e75736d","#,
-            r#""video":{"path":"o/lark.m2v","path_hex":"6f2f6c61726b2e6d3276","size":"1453"},"#,
-            r#""audio":{"path":"o/lark.adx","path_hex":"6f2f6c61726b2e616478","size":"736"}}"#,
+            r#"{"kind":"extracted","schema":1,"file":"song.usm","file_hex":"736f6e672e75736d","name":"songs/lark.usm","name_hex":"736f6e67732f6c61726b2e75736d","#,
+            r#""video":{"path":"o/lark.m2v","path_hex":"6f2f6c61726b2e6d3276","bytes":1453},"#,
+            r#""audio":{"path":"o/lark.adx","path_hex":"6f2f6c61726b2e616478","bytes":736}}"#,
             "\n",
-            r#"{"file":"f.usm","file_hex":"662e75736d","name":null,"name_hex":null,"#,
-            r#""video":{"path":"o/f.m2v","path_hex":"6f2f662e6d3276","size":"32"},"audio":null}"#,
+            r#"{"kind":"extracted","schema":1,"file":"f.usm","file_hex":"662e75736d","name":null,"name_hex":null,"#,
+            r#""video":{"path":"o/f.m2v","path_hex":"6f2f662e6d3276","bytes":32},"audio":null}"#,
             "\n",
         ),
         "",

@@ -130,22 +130,22 @@ fn json_has_one_object_a_film() {
     let run = folder.usm(&["info", "--json", "song.usm", "cut.usm", "f.usm", "none.usm"]);
     let objects = [
         concat!(
-            r#"{"file":"song.usm","file_hex":"736f6e672e75736d","bytes":"3296","#,
+            r#"{"kind":"film","schema":1,"file":"song.usm","file_hex":"736f6e672e75736d","bytes":3296,"#,
             r#""name":"songs/lark.usm","name_hex":"736f6e67732f6c61726b2e75736d","#,
-            r#""video":{"codec":1,"kind":"m2v","size":"1453","closed":true,"shows_key_at":"704"},"#,
-            r#""audio":{"codec":2,"kind":"adx","size":"736","closed":true,"shows_key_at":"1344"},"shows_key":true,"#,
-            r#""chunks":[{"kind":"video","channel":0,"count":"3","bytes":"1453"},"#,
-            r#"{"kind":"audio","channel":0,"count":"2","bytes":"736"},{"kind":"other","channel":0,"count":"1","bytes":"0"},"#,
-            r#"{"kind":"end","channel":0,"count":"2","bytes":"0"}]}"#,
+            r#""video":{"codec":1,"format":"m2v","bytes":1453,"closed":true,"shows_key_at":704},"#,
+            r#""audio":{"codec":2,"format":"adx","bytes":736,"closed":true,"shows_key_at":1344},"shows_key":true,"#,
+            r#""chunks":[{"kind":"video","channel":0,"count":3,"bytes":1453},"#,
+            r#"{"kind":"audio","channel":0,"count":2,"bytes":736},{"kind":"other","channel":0,"count":1,"bytes":0},"#,
+            r#"{"kind":"end","channel":0,"count":2,"bytes":0}]}"#,
         ),
-        r#"{"file":"cut.usm","file_hex":"6375742e75736d","refused":{"number":1,"place":"384","reason":"bytes run out"}}"#,
+        r#"{"kind":"failure","schema":1,"file":"cut.usm","file_hex":"6375742e75736d","refused":{"number":1,"place":384,"reason":"bytes run out"}}"#,
         concat!(
-            r#"{"file":"f.usm","file_hex":"662e75736d","bytes":"448","name":null,"name_hex":null,"#,
-            r#""video":{"codec":null,"kind":"m2v","size":"32","closed":true,"shows_key_at":null},"audio":null,"#,
-            r#""shows_key":false,"chunks":[{"kind":"video","channel":0,"count":"1","bytes":"32"},"#,
-            r#"{"kind":"end","channel":0,"count":"1","bytes":"0"}]}"#,
+            r#"{"kind":"film","schema":1,"file":"f.usm","file_hex":"662e75736d","bytes":448,"name":null,"name_hex":null,"#,
+            r#""video":{"codec":null,"format":"m2v","bytes":32,"closed":true,"shows_key_at":null},"audio":null,"#,
+            r#""shows_key":false,"chunks":[{"kind":"video","channel":0,"count":1,"bytes":32},"#,
+            r#"{"kind":"end","channel":0,"count":1,"bytes":0}]}"#,
         ),
-        r#"{"file":"none.usm","file_hex":"6e6f6e652e75736d","error":"No such file or directory (os error 2)"}"#,
+        r#"{"kind":"failure","schema":1,"file":"none.usm","file_hex":"6e6f6e652e75736d","error":"No such file or directory (os error 2)"}"#,
     ];
     let err = "usm: cut.usm: refused 1 at 384: bytes run out\nusm: none.usm: No such file or directory (os error 2)\n";
     run.expect(2, &objects.map(|object| format!("{object}\n")).concat(), err);

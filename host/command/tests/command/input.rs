@@ -115,7 +115,7 @@ fn names_of_files_in_any_bytes() {
     );
     let object = String::from_utf8(output.stdout).unwrap();
     assert!(
-        object.starts_with("{\"file\":\"\\u001b[2J\u{FFFD}.usm\",\"file_hex\":\"1b5b324aff2e75736d\","),
+        object.starts_with("{\"kind\":\"failure\",\"schema\":1,\"file\":\"\\u001b[2J\u{FFFD}.usm\",\"file_hex\":\"1b5b324aff2e75736d\","),
         "{object}"
     );
 }

@@ -49,7 +49,7 @@ fn json() {
     Folder::new().usm(&["keys", "--json", "7F123456789ABCDE", "0x1234f6789abcde"]).expect(
         0,
         concat!(
-            r#"{"first":"7F123456789ABCDE","second":"001234F6789ABCDE","same_key":false,"same_streams":true,"#,
+            r#"{"kind":"keys","schema":1,"first":"7F123456789ABCDE","second":"001234F6789ABCDE","same_key":false,"same_streams":true,"#,
             r#""differing_digits":[0,1,6],"counting_digits":[2,3,4,5,7,8,9,10,11,12,13,14,15]}"#,
             "\n"
         ),

@@ -46,7 +46,7 @@ fn csv_names_the_film_of_each_chunk() {
 }
 
 #[test]
-fn json_has_strings_for_wide_numbers() {
+fn json_has_an_object_for_each_chunk() {
     let folder = Folder::new();
     let mut film = Film::new(&Header { audio: Some(None), ..Header::default() });
     let start = film.bytes.len();
@@ -55,8 +55,8 @@ fn json_has_strings_for_wide_numbers() {
     folder.usm(&["list", "--json", "film.usm"]).expect(
         0,
         &format!(
-            "{{\"file\":\"film.usm\",\"file_hex\":\"66696c6d2e75736d\",\"chunks\":\
-             [{{\"start\":\"{start}\",\"kind\":\"audio\",\"type\":3,\"channel\":7,\"length\":\"5\"}}]}}\n"
+            "{{\"kind\":\"chunks\",\"schema\":1,\"file\":\"film.usm\",\"file_hex\":\"66696c6d2e75736d\",\"chunks\":\
+             [{{\"start\":{start},\"kind\":\"audio\",\"type\":3,\"channel\":7,\"length\":5}}]}}\n"
         ),
         "",
     );

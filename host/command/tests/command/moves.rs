@@ -82,8 +82,8 @@ fn films_that_can_not_be_written() {
     folder.usm(&["from-old", "--json", "marked.usm"]).expect(
         1,
         &format!(
-            "{{\"file\":\"marked.usm\",\"file_hex\":\"6d61726b65642e75736d\",\
-             \"refused\":{{\"number\":15,\"place\":\"0\",\"reason\":\"{reason}\"}}}}\n"
+            "{{\"kind\":\"failure\",\"schema\":1,\"file\":\"marked.usm\",\"file_hex\":\"6d61726b65642e75736d\",\
+             \"refused\":{{\"number\":15,\"place\":0,\"reason\":\"{reason}\"}}}}\n"
         ),
         &format!("usm: marked.usm: refused 15 at 0: {reason}\n"),
     );
@@ -112,15 +112,15 @@ fn json_and_standard_input() {
     let folder = Folder::new();
     folder.usm_with(&["from-old", "--json", "-"], &example("old.usm")).expect(
         0,
-        "{\"file\":\"-\",\"file_hex\":\"2d\",\"path\":\"./film.moved.usm\",\
-         \"path_hex\":\"2e2f66696c6d2e6d6f7665642e75736d\",\"bytes\":\"3040\"}\n",
+        "{\"kind\":\"rewritten\",\"schema\":1,\"file\":\"-\",\"file_hex\":\"2d\",\"path\":\"./film.moved.usm\",\
+         \"path_hex\":\"2e2f66696c6d2e6d6f7665642e75736d\",\"bytes\":3040}\n",
         "",
     );
     let moved = folder.read("film.moved.usm");
     folder.usm_with(&["to-old", "--json", "-"], &moved).expect(
         0,
-        "{\"file\":\"-\",\"file_hex\":\"2d\",\"path\":\"./film.old.usm\",\
-         \"path_hex\":\"2e2f66696c6d2e6f6c642e75736d\",\"bytes\":\"2680\"}\n",
+        "{\"kind\":\"rewritten\",\"schema\":1,\"file\":\"-\",\"file_hex\":\"2d\",\"path\":\"./film.old.usm\",\
+         \"path_hex\":\"2e2f66696c6d2e6f6c642e75736d\",\"bytes\":2680}\n",
         "",
     );
     assert_eq!(folder.read("film.old.usm"), example("old.usm"));

@@ -42,7 +42,7 @@ fn standard_input_is_a_stream() {
     let run = folder.usm_with(&["pack", "-", "audio", "-o", "a.usm", "--json"], b"moving pictures");
     run.expect(
         0,
-        "{\"file\":\"a.usm\",\"file_hex\":\"612e75736d\",\"bytes\":\"1568\",\"video\":\"15\",\"audio\":\"736\"}\n",
+        "{\"kind\":\"packed\",\"schema\":1,\"file\":\"a.usm\",\"file_hex\":\"612e75736d\",\"bytes\":1568,\"video_bytes\":15,\"audio_bytes\":736}\n",
         "",
     );
     folder.usm(&["pack", "-", "-", "-o", "b.usm"]).expect(2, "", "usm: standard input can't be both streams\n");
@@ -59,7 +59,7 @@ fn what_can_not_be_packed() {
     folder.usm(&["pack", "marked", "-o", "a.usm", "--json"]).expect(
         1,
         &format!(
-            "{{\"file\":\"a.usm\",\"file_hex\":\"612e75736d\",\"refused\":{{\"number\":15,\"place\":\"0\",\"reason\":\"{marked}\"}}}}\n"
+            "{{\"kind\":\"failure\",\"schema\":1,\"file\":\"a.usm\",\"file_hex\":\"612e75736d\",\"refused\":{{\"number\":15,\"place\":0,\"reason\":\"{marked}\"}}}}\n"
         ),
         &format!("usm: a.usm: refused 15 at 0: {marked}\n"),
     );

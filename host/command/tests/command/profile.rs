@@ -74,8 +74,8 @@ fn json_has_rule_and_place() {
     let folder = Folder::with_films();
     folder.usm(&["profile", "--json", "f.usm", "song.usm"]).expect(
         1,
-        "{\"file\":\"f.usm\",\"file_hex\":\"662e75736d\",\"plain\":true,\"rule\":null,\"place\":null,\"reason\":null}\n\
-         {\"file\":\"song.usm\",\"file_hex\":\"736f6e672e75736d\",\"plain\":false,\"rule\":1,\"place\":\"3104\",\
+        "{\"kind\":\"profile\",\"schema\":1,\"file\":\"f.usm\",\"file_hex\":\"662e75736d\",\"plain\":true,\"rule\":null,\"place\":null,\"reason\":null}\n\
+         {\"kind\":\"profile\",\"schema\":1,\"file\":\"song.usm\",\"file_hex\":\"736f6e672e75736d\",\"plain\":false,\"rule\":1,\"place\":3104,\
          \"reason\":\"its header size is not 0x18\"}\n",
         "",
     );

@@ -54,16 +54,16 @@ fn json_and_standard_input() {
     let folder = Folder::new();
     folder.usm_with(&["salvage", "--json", "-"], &films::f()[..428]).expect(
         0,
-        "{\"file\":\"-\",\"file_hex\":\"2d\",\"path\":\"./film.salvaged.usm\",\
-         \"path_hex\":\"2e2f66696c6d2e73616c76616765642e75736d\",\"bytes\":\"384\",\"dropped\":\"44\",\"cause\":1,\
+        "{\"kind\":\"rewritten\",\"schema\":1,\"file\":\"-\",\"file_hex\":\"2d\",\"path\":\"./film.salvaged.usm\",\
+         \"path_hex\":\"2e2f66696c6d2e73616c76616765642e75736d\",\"bytes\":384,\"dropped\":44,\"cause\":1,\
          \"reason\":\"bytes run out\"}\n",
         "",
     );
     let whole = folder.usm_with(&["salvage", "--json", "--force", "--all", "-"], &films::f());
-    assert!(whole.out.ends_with("\"dropped\":\"0\",\"cause\":0,\"reason\":null}\n"), "{}", whole.out);
+    assert!(whole.out.ends_with("\"dropped\":0,\"cause\":0,\"reason\":null}\n"), "{}", whole.out);
     folder.usm_with(&["salvage", "--json", "--force", "-"], &films::f()).expect(
         0,
-        "{\"file\":\"-\",\"file_hex\":\"2d\",\"skipped\":\"the film is whole\"}\n",
+        "{\"kind\":\"skipped\",\"schema\":1,\"file\":\"-\",\"file_hex\":\"2d\",\"why\":\"the film is whole\"}\n",
         "",
     );
     assert_eq!(folder.usm(&["salvage"]).status, 2);

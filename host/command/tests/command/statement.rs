@@ -76,9 +76,9 @@ fn csv_and_json() {
     folder.write("one.csv", b"18446744073709551615,0");
     folder.usm(&["statement", "--json", "one.csv", "f.usm"]).expect(
         0,
-        "{\"file\":\"f.usm\",\"file_hex\":\"662e75736d\",\"shares\":[{\"tenant\":\"18446744073709551615\",\
-         \"group\":\"18446744073709551615\",\"bytes\":\"32\"}]}\n\
-         {\"films\":1,\"failed\":0,\"totals\":[{\"tenant\":\"18446744073709551615\",\"bytes\":\"32\"}]}\n",
+        "{\"kind\":\"shares\",\"schema\":1,\"file\":\"f.usm\",\"file_hex\":\"662e75736d\",\"shares\":[{\"tenant\":\"18446744073709551615\",\
+         \"group\":\"18446744073709551615\",\"bytes\":32}]}\n\
+         {\"kind\":\"totals\",\"schema\":1,\"films\":1,\"failed\":0,\"totals\":[{\"tenant\":\"18446744073709551615\",\"bytes\":32}]}\n",
         "",
     );
     assert_eq!(folder.usm(&["statement", "--csv", "--json", "one.csv", "f.usm"]).status, 2);
@@ -140,9 +140,9 @@ fn keys_on_films() {
                  \nsong.usm: different streams, first in the video payload of the chunk at 704\n";
     assert!(run.out.ends_with(films), "{}", run.out);
     let run = folder.usm(&["keys", "--json", KEY, "0", "song.usm", "f.usm"]);
-    let films = "{\"file\":\"song.usm\",\"file_hex\":\"736f6e672e75736d\",\"same_streams\":false,\
-                 \"differs_in\":\"video\",\"differs_at\":\"704\"}\n\
-                 {\"file\":\"f.usm\",\"file_hex\":\"662e75736d\",\"same_streams\":true}\n";
+    let films = "{\"kind\":\"film-keys\",\"schema\":1,\"file\":\"song.usm\",\"file_hex\":\"736f6e672e75736d\",\"same_streams\":false,\
+                 \"differs_in\":\"video\",\"differs_at\":704}\n\
+                 {\"kind\":\"film-keys\",\"schema\":1,\"file\":\"f.usm\",\"file_hex\":\"662e75736d\",\"same_streams\":true}\n";
     assert!(run.out.ends_with(films), "{}", run.out);
     assert_eq!(run.out.lines().count(), 3);
 }
@@ -173,7 +173,7 @@ fn the_first_payload_that_shows_it() {
             folder.write("film.usm", &film.bytes);
             let run = folder.usm(&["keys", "--json", &format!("{:x}", keys[0]), &format!("{key:x}"), "film.usm"]);
             let expected = match shown {
-                Some(at) => format!("\"differs_at\":\"{at}\"}}\n"),
+                Some(at) => format!("\"differs_at\":{at}}}\n"),
                 None => "\"same_streams\":true}\n".to_string(),
             };
             assert!(run.out.ends_with(&expected), "{key:x} {expected} {}", run.out);

@@ -127,5 +127,5 @@ fn json_loses_no_digit() {
         "\n"
     );
     assert!(run.out.ends_with(rows), "{}", run.out);
-    assert!(run.out.starts_with(r#"{"file":"t","file_hex":"74","tables":[{"place":"0","columns":[{"name":"a","name_hex":"61","type":86,"constant":false},"#));
+    assert!(run.out.starts_with(r#"{"kind":"tables","schema":1,"file":"t","file_hex":"74","tables":[{"place":0,"columns":[{"name":"a","name_hex":"61","type":86,"constant":false},"#));
 }
