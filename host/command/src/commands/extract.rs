@@ -3,7 +3,7 @@
 use std::collections::BTreeSet;
 use std::path::{Path, PathBuf};
 
-use clap::{Args, ValueEnum};
+use clap::{Args, ValueEnum, ValueHint};
 use serde::Serialize;
 use usm::{Audio, ChunkKind, Header, Reader, Reading, Stream};
 
@@ -38,10 +38,10 @@ pub struct Extract {
     #[command(flatten)]
     pub key: KeyOptions,
     /// Write the video of one film to FILE, or with - to standard output
-    #[arg(long, value_name = "FILE", conflicts_with_all = ["output", "skip_existing", "json", "channels"])]
+    #[arg(long, value_name = "FILE", value_hint = ValueHint::FilePath, conflicts_with_all = ["output", "skip_existing", "json", "channels"])]
     pub video: Option<PathBuf>,
     /// Write the audio of one film to FILE, or with - to standard output
-    #[arg(long, value_name = "FILE", conflicts_with_all = ["output", "skip_existing", "json", "channels", "no_audio"])]
+    #[arg(long, value_name = "FILE", value_hint = ValueHint::FilePath, conflicts_with_all = ["output", "skip_existing", "json", "channels", "no_audio"])]
     pub audio: Option<PathBuf>,
     /// What becomes of several channels of audio: joined in one file, or each in a file of its own, NAME.CHANNEL.adx
     #[arg(long, value_name = "HOW", value_enum, conflicts_with_all = ["channel", "no_audio"])]

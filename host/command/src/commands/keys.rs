@@ -2,7 +2,7 @@
 
 use std::path::PathBuf;
 
-use clap::Args;
+use clap::{Args, ValueHint};
 use serde::Serialize;
 use usm::{ChunkKind, Mask, Reader, Reading};
 
@@ -31,7 +31,7 @@ pub struct Keys {
     #[arg(value_name = "K2")]
     second: String,
     /// Films, folders of films, or - for standard input
-    #[arg(value_name = "FILE")]
+    #[arg(value_name = "FILE", value_hint = ValueHint::AnyPath)]
     files: Vec<PathBuf>,
     #[command(flatten)]
     options: RunOptions,

@@ -4,7 +4,7 @@ use std::ffi::OsString;
 use std::os::unix::ffi::OsStrExt;
 use std::path::PathBuf;
 
-use clap::Args;
+use clap::{Args, ValueHint};
 use serde::Serialize;
 use usm::Streams;
 
@@ -30,13 +30,13 @@ use crate::run::sources::{Origin, Source};
 #[derive(Args)]
 pub struct Pack {
     /// The video stream, or - for standard input
-    #[arg(value_name = "VIDEO")]
+    #[arg(value_name = "VIDEO", value_hint = ValueHint::FilePath)]
     video: PathBuf,
     /// The audio stream, or - for standard input
-    #[arg(value_name = "AUDIO")]
+    #[arg(value_name = "AUDIO", value_hint = ValueHint::FilePath)]
     audio: Option<PathBuf>,
     /// The film to write
-    #[arg(long, short, value_name = "FILM", required = true)]
+    #[arg(long, short, value_name = "FILM", required = true, value_hint = ValueHint::FilePath)]
     output: PathBuf,
     /// The film's own name
     #[arg(long, value_name = "NAME")]

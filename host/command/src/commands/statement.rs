@@ -4,7 +4,7 @@ use std::collections::BTreeMap;
 use std::path::{Path, PathBuf};
 use std::sync::{Mutex, MutexGuard, PoisonError};
 
-use clap::Args;
+use clap::{Args, ValueHint};
 use serde::Serialize;
 use usm::{Share, Tenant};
 
@@ -28,7 +28,7 @@ use crate::run::workers::{self, Film, Task, Turn};
 #[derive(Args)]
 pub struct Statement {
     /// The tenants, a CSV file
-    #[arg(value_name = "TENANTS")]
+    #[arg(value_name = "TENANTS", value_hint = ValueHint::FilePath)]
     tenants: PathBuf,
     #[command(flatten)]
     films: Films,

@@ -6,7 +6,7 @@ use std::io;
 use std::path::{Path, PathBuf};
 use std::sync::{Mutex, MutexGuard, PoisonError};
 
-use clap::Args;
+use clap::{Args, ValueHint};
 
 use crate::files::identity::FileId;
 use crate::files::staged::{EXISTS, Replacing, StagedFiles};
@@ -18,7 +18,7 @@ use crate::run::sources::Source;
 #[derive(Args)]
 pub struct OutputOptions {
     /// Put the files in this folder, which is made if it is not there
-    #[arg(long, short, value_name = "DIR")]
+    #[arg(long, short, value_name = "DIR", value_hint = ValueHint::DirPath)]
     output: Option<PathBuf>,
     /// With -o, keep the folders of films below the folders that are named
     #[arg(long, requires = "output")]

@@ -5,7 +5,7 @@ use std::fs::File;
 use std::io::Read;
 use std::path::{Path, PathBuf};
 
-use clap::Args;
+use clap::{Args, ValueHint};
 
 use crate::output::text::Shown;
 use crate::output::{Error, Status, report};
@@ -17,7 +17,7 @@ pub struct KeyOptions {
     #[arg(long, short, value_name = "KEY", conflicts_with = "key_file")]
     key: Option<String>,
     /// Read the key from a file, so that it stands on no command line
-    #[arg(long, value_name = "FILE")]
+    #[arg(long, value_name = "FILE", value_hint = ValueHint::FilePath)]
     key_file: Option<PathBuf>,
 }
 

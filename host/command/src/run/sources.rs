@@ -6,7 +6,7 @@ use std::fs::{self, FileType};
 use std::os::unix::fs::FileTypeExt;
 use std::path::{Path, PathBuf};
 
-use clap::Args;
+use clap::{Args, ValueHint};
 use walkdir::{DirEntry, WalkDir};
 
 use crate::files::identity::FileId;
@@ -18,10 +18,10 @@ use crate::run::lists;
 #[derive(Args)]
 pub struct Films {
     /// Films, folders of films, or - for standard input
-    #[arg(value_name = "FILE", required_unless_present = "files_from")]
+    #[arg(value_name = "FILE", required_unless_present = "files_from", value_hint = ValueHint::AnyPath)]
     pub files: Vec<PathBuf>,
     /// Take more films from a list, a line for each, or with - from standard input
-    #[arg(long, value_name = "LIST")]
+    #[arg(long, value_name = "LIST", value_hint = ValueHint::FilePath)]
     files_from: Option<PathBuf>,
     #[command(flatten)]
     pub options: RunOptions,
@@ -43,7 +43,7 @@ pub struct RunOptions {
     #[arg(long)]
     pub summary: bool,
     /// Write the names of films that were refused or failed to this file, a line for each; --files-from reads it
-    #[arg(long, value_name = "LIST")]
+    #[arg(long, value_name = "LIST", value_hint = ValueHint::FilePath)]
     pub failed: Option<PathBuf>,
     /// Lists have a zero byte after each name in place of a line's end
     #[arg(long)]

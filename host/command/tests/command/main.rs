@@ -1,5 +1,6 @@
 //! The command on real files.
 
+mod completions;
 mod csv;
 mod extract;
 mod help;
@@ -9,6 +10,7 @@ mod input;
 mod keys;
 mod list;
 mod lists;
+mod man;
 mod memory;
 mod moves;
 mod operators;
