@@ -307,6 +307,7 @@ unsafe extern "C" {
         audio: FilmAudio,
     ) -> StepReply;
     fn usm_clear(key: u64, mask: u8, payload: *mut u8, len: usize);
+    fn usm_payload_bits(mask: u8, length: usize) -> u64;
     fn usm_seek(index: *const IndexEntry, count: usize, byte: u64) -> SeekReply;
 }
 
@@ -449,6 +450,10 @@ pub fn open(beginning: &[u8], total: usize, reading: Reading) -> OpenReply {
 
 pub fn step(window: &[u8], place: usize, total: usize, reading: Reading, audio: FilmAudio) -> StepReply {
     unsafe { usm_step(window.as_ptr(), window.len(), place, total, reading, audio) }
+}
+
+pub fn payload_bits(mask: u8, length: usize) -> u64 {
+    unsafe { usm_payload_bits(mask, length) }
 }
 
 pub fn clear(key: u64, mask: u8, payload: &mut [u8]) {

@@ -104,14 +104,23 @@ impl Mask {
         }
     }
 
-    /// Makes a whole payload with this mask clear, in place.
-    pub fn clear(self, key: u64, payload: &mut [u8]) {
-        let number = match self {
-            Mask::None => return,
+    fn number(self) -> u8 {
+        match self {
+            Mask::None => 0,
             Mask::Video => 1,
             Mask::Audio => 2,
-        };
-        ffi::clear(key, number, payload);
+        }
+    }
+
+    /// Makes a whole payload with this mask clear, in place.
+    pub fn clear(self, key: u64, payload: &mut [u8]) {
+        ffi::clear(key, self.number(), payload);
+    }
+
+    /// The bits of a key that a payload of this mask and length shows. The largest number of a film's payloads is what
+    /// [`key_bits`](crate::key_bits) gives for the film (proved).
+    pub fn key_bits(self, length: usize) -> u64 {
+        ffi::payload_bits(self.number(), length)
     }
 }
 

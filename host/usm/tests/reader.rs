@@ -91,6 +91,11 @@ fn agrees(film: &[u8], reading: Reading) {
         Ok(chunks)
     });
     assert_eq!(walked, listed);
+    let bits = refused(Reader::new(Cursor::new(film), reading)).and_then(|mut reader| {
+        let mut shown = reader.chunks().map(|chunk| refused(chunk).map(|chunk| chunk.mask.key_bits(chunk.length)));
+        shown.try_fold(0, |most, bits| Ok(bits?.max(most)))
+    });
+    assert_eq!(bits, usm::key_bits(film, reading), "the bits of a key that the film shows");
 }
 
 /// Films whose payloads reach into the chunks after them, are longer than any window, or are empty.

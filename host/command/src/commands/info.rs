@@ -1,11 +1,11 @@
 //! `usm info`: what films hold.
 
-use std::collections::{BTreeMap, HashMap};
+use std::collections::BTreeMap;
 use std::path::Path;
 
 use clap::Args;
 use serde::Serialize;
-use usm::{ChunkHead, ChunkKind, Format, Header, Mask, Reader};
+use usm::{ChunkHead, ChunkKind, Format, Header, Reader};
 
 use crate::options::reading::ReadingOptions;
 use crate::output::json::{About, AsHex, AsText};
@@ -83,14 +83,13 @@ enum End {
 impl Facts {
     fn of(reader: &mut Reader<&mut Input>, meter: &Meter) -> Result<Facts, Error> {
         let mut facts = Facts { counts: BTreeMap::new(), video: StreamFacts::NONE, audio: StreamFacts::NONE };
-        let mut payloads = Payloads::default();
         while let Some(chunk) = reader.next_chunk()? {
             let (count, bytes) = facts.counts.entry((chunk.kind, chunk.channel)).or_default();
             *count += 1;
             *bytes += chunk.length;
             match &chunk.letters {
-                b"@SFV" => facts.video.add(&chunk, &mut payloads),
-                b"@SFA" => facts.audio.add(&chunk, &mut payloads),
+                b"@SFV" => facts.video.add(&chunk),
+                b"@SFA" => facts.audio.add(&chunk),
                 _ => {}
             }
             meter.reach(reader.place());
@@ -102,7 +101,7 @@ impl Facts {
 impl StreamFacts {
     const NONE: StreamFacts = StreamFacts { size: 0, end: End::Missing, shows_key: None };
 
-    fn add(&mut self, chunk: &ChunkHead, payloads: &mut Payloads) {
+    fn add(&mut self, chunk: &ChunkHead) {
         self.end = match (chunk.kind, self.end) {
             (ChunkKind::End, _) => End::Closed,
             (_, End::Missing) => End::Missing,
@@ -111,46 +110,10 @@ impl StreamFacts {
         if matches!(chunk.kind, ChunkKind::Video | ChunkKind::Audio) {
             self.size += chunk.length;
         }
-        if self.shows_key.is_none() && payloads.show_keys(chunk.mask, chunk.length) {
+        if self.shows_key.is_none() && chunk.mask.key_bits(chunk.length) != 0 {
             self.shows_key = Some(chunk.start);
         }
     }
-}
-
-/// Which payloads show a key, by their masks and lengths: those that two keys make different. It is tried out, so that
-/// the masks alone decide.
-#[derive(Default)]
-struct Payloads {
-    known: HashMap<(Mask, usize), bool>,
-}
-
-/// So many lengths are remembered.
-const MOST_KNOWN: usize = 1 << 12;
-
-impl Payloads {
-    fn show_keys(&mut self, mask: Mask, length: usize) -> bool {
-        if mask == Mask::None || length == 0 {
-            return false;
-        }
-        if self.known.len() >= MOST_KNOWN {
-            self.known.clear();
-        }
-        *self.known.entry((mask, length)).or_insert_with(|| differs(mask, length.min(LONG_ENOUGH)))
-    }
-}
-
-/// A payload of this length is tried where one is longer: what two keys change in its beginning stays.
-const LONG_ENOUGH: usize = 4 << 10;
-
-/// Whether a payload of zeros is made different by the key 0 and one of the keys that have one bit.
-fn differs(mask: Mask, length: usize) -> bool {
-    let clear = |key: u64| {
-        let mut payload = vec![0; length];
-        mask.clear(key, &mut payload);
-        payload
-    };
-    let under_zero = clear(0);
-    (0..u64::BITS).any(|bit| clear(1 << bit) != under_zero)
 }
 
 fn print_film(label: &Path, bytes: usize, header: &Header, facts: &Facts, output: &mut Output) -> Result<(), Error> {

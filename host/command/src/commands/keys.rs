@@ -4,14 +4,14 @@ use std::path::PathBuf;
 
 use clap::{Args, ValueHint};
 use serde::Serialize;
-use usm::{ChunkKind, Mask, Reader, Reading};
+use usm::{ChunkKind, Reader, Reading};
 
 use crate::options::key::{self, Key};
 use crate::output::json::{About, Kind};
 use crate::output::text::Shown;
 use crate::output::{Error, Status};
 use crate::output::{Output, print_to, report, report_error};
-use crate::run::input::{Input, make_room};
+use crate::run::input::Input;
 use crate::run::progress::Meter;
 use crate::run::sources::{RunOptions, sources};
 use crate::run::workers::{self, Film, Task, Turn};
@@ -125,31 +125,18 @@ impl Answer {
         usm::key_table(self.first) == usm::key_table(self.second)
     }
 
-    /// The first payload of a film that the keys make different. All payloads, made clear, are the streams (proved), so
-    /// that keys which make none different give the same streams. Those of equal tables do so for every film.
+    /// The first payload of a film that the keys make different: one that shows a bit in which they differ. Where none
+    /// does they give the same streams (proved).
     fn first_difference(&self, reader: &mut Reader<&mut Input>, meter: &Meter) -> Result<Option<Difference>, Error> {
         let mut found = None;
         while let Some(chunk) = reader.next_chunk()? {
-            if found.is_none() && !self.same_streams() && chunk.mask != Mask::None {
+            if found.is_none() && (self.first ^ self.second) & chunk.mask.key_bits(chunk.length) != 0 {
                 let stream = if chunk.kind == ChunkKind::Video { "video" } else { "audio" };
-                let is_different = self.differs_in(chunk.mask, reader.payload(&chunk)?)?;
-                found = is_different.then_some(Difference { stream, at: chunk.start });
+                found = Some(Difference { stream, at: chunk.start });
             }
             meter.reach(reader.place());
         }
         Ok(found)
-    }
-
-    /// Whether a payload is made different.
-    fn differs_in(&self, mask: Mask, payload: &[u8]) -> Result<bool, Error> {
-        let clear = |key: u64| -> Result<Vec<u8>, Error> {
-            let mut clear = Vec::new();
-            make_room(&mut clear, payload.len())?;
-            clear.extend_from_slice(payload);
-            mask.clear(key, &mut clear);
-            Ok(clear)
-        };
-        Ok(clear(self.first)? != clear(self.second)?)
     }
 
     fn object(&self) -> Object {

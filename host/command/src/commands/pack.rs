@@ -1,6 +1,7 @@
 //! `usm pack`: streams into a film.
 
 use std::ffi::OsString;
+use std::io::{IsTerminal, Write};
 use std::os::unix::ffi::OsStrExt;
 use std::path::PathBuf;
 
@@ -25,7 +26,7 @@ use crate::run::sources::{Origin, Source};
 /// The film has the video and, where it is named, the audio, and is masked under the key. `usm extract` with the same
 /// key gives both back. The streams are clear: as extract writes them with a key. A film appears whole or not at all.
 ///
-/// A film has a name of its own, by default that of its file. Without a codec it says none; audio is masked where its
+/// A film has a name of its own, by default that of its file, and none on standard output. Without a codec it says none; audio is masked where its
 /// codec is 2.
 #[derive(Args)]
 pub struct Pack {
@@ -35,7 +36,7 @@ pub struct Pack {
     /// The audio stream, or - for standard input
     #[arg(value_name = "AUDIO", value_hint = ValueHint::FilePath)]
     audio: Option<PathBuf>,
-    /// The film to write
+    /// The film to write, or - for standard output
     #[arg(long, short, value_name = "FILM", required = true, value_hint = ValueHint::FilePath)]
     output: PathBuf,
     /// The film's own name
@@ -76,6 +77,7 @@ impl Pack {
         let packed = self.pack(key, &sources, &Meter::new(&progress, 2, total.unwrap_or(0)));
         progress.end();
         match packed {
+            Ok(_) if self.is_to_output() => Status::Success,
             Ok(sizes) => write_all(|output| self.print(&sizes, output)),
             Err(error) => self.fail(error),
         }
@@ -98,18 +100,28 @@ impl Pack {
         let mut film = Vec::new();
         make_room(&mut film, usm::packed_size(packed)?)?;
         usm::pack_into(packed, key, &mut film)?;
+        let sizes = Sizes { film: film.len(), video: video.len(), audio: self.audio.as_ref().map(|_| audio.len()) };
+        if self.is_to_output() {
+            write_film(&film)?;
+            return Ok(sizes);
+        }
         let mut staged = StagedFiles::new(!self.no_sync);
         staged.write(self.output.clone(), &film)?;
         meter.advance(film.len() as u64);
         let is_stream = |id: FileId| sources.iter().flatten().any(|source| source.id == Some(id));
         let is_kept = |id: FileId| is_stream(id).then(|| "it is one of the streams".to_string());
         staged.place(&Replacing { force: self.force, is_kept: &is_kept })?;
-        Ok(Sizes { film: film.len(), video: video.len(), audio: self.audio.as_ref().map(|_| audio.len()) })
+        Ok(sizes)
+    }
+
+    /// Whether the film goes to standard output, where nothing else is printed then.
+    fn is_to_output(&self) -> bool {
+        self.output.as_os_str() == "-"
     }
 
     /// The film's own name: as it is given, or that of its file.
     fn name(&self) -> &[u8] {
-        let own = self.name.as_deref().or(self.output.file_name());
+        let own = self.name.as_deref().or(self.output.file_name().filter(|_| !self.is_to_output()));
         own.map_or(b"", OsStrExt::as_bytes)
     }
 
@@ -134,6 +146,15 @@ impl Pack {
         };
         status.max(printed)
     }
+}
+
+/// Writes a film to standard output, which must not be a terminal.
+fn write_film(film: &[u8]) -> Result<(), Error> {
+    if std::io::stdout().is_terminal() {
+        return Err(Error::System("standard output is a terminal: a film is not for it".to_string()));
+    }
+    let mut output = std::io::stdout().lock();
+    output.write_all(film).and_then(|()| output.flush()).map_err(Error::Output)
 }
 
 #[derive(Serialize)]

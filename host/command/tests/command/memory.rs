@@ -76,7 +76,7 @@ fn a_table_that_reaches_over_the_chunks() {
     film.bytes[36..40].copy_from_slice(&424_u32.to_be_bytes());
     folder.write("reach.usm", &film.bytes);
     folder.write("plain.usm", &films::f());
-    for words in ["info reach.usm plain.usm", "keys 1 1 reach.usm plain.usm", "list reach.usm"] {
+    for words in ["info reach.usm plain.usm", "keys 1 2 reach.usm plain.usm", "list reach.usm"] {
         assert_eq!(with_memory(&folder, WINDOW, words), (0, String::new()), "{words}");
     }
 }

@@ -51,6 +51,16 @@ fn standard_input_is_a_stream() {
 }
 
 #[test]
+fn a_film_to_standard_output() {
+    let folder = with_streams();
+    let line = "$USM pack video audio -k 1 -o - | $USM extract -q -k 1 --video - - | cmp - video";
+    folder.shell(line).expect(0, "", "");
+    assert_eq!(folder.names(), ["audio", "video"]);
+    let full = "usm: standard output: No space left on device (os error 28)\n";
+    folder.shell("$USM pack video -o - > /dev/full").expect(2, "", full);
+}
+
+#[test]
 fn what_can_not_be_packed() {
     let folder = with_streams();
     folder.write("marked", b"#CONTENTS END of the film");
