@@ -2,9 +2,9 @@
 
 made=$root/target/host
 built=$made/release
-packages=(librust-clap-dev librust-clap-complete-dev librust-csv-dev librust-encoding-rs-dev librust-indicatif-dev
-    librust-nix-dev librust-rustix-dev librust-serde-dev librust-serde-json-dev librust-signal-hook-dev
-    librust-walkdir-dev)
+packages=(librust-clap-dev librust-clap-complete-dev librust-csv-core-dev librust-csv-dev librust-encoding-rs-dev
+    librust-indicatif-dev librust-nix-dev librust-rusqlite-dev librust-rustix-dev librust-serde-dev
+    librust-serde-json-dev librust-sha2-dev librust-signal-hook-dev librust-walkdir-dev)
 oldest_rust=1.88
 
 say() {

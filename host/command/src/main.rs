@@ -47,6 +47,8 @@ enum Command {
     Salvage(salvage::Salvage),
     Profile(profile::Profile),
     Statement(statement::Statement),
+    Bill(bill::Bill),
+    Digest(digest::Digest),
     #[command(hide = true)]
     Completions(completions::Completions),
 }
@@ -73,6 +75,8 @@ fn run(command: Command) -> Status {
         Command::Salvage(salvage) => salvage.run(),
         Command::Profile(profile) => profile.run(),
         Command::Statement(statement) => statement.run(),
+        Command::Bill(bill) => bill.run(),
+        Command::Digest(digest) => digest.run(),
         Command::Completions(completions) => completions.run(),
     }
 }

@@ -1,7 +1,9 @@
 //! The subcommands, one in each file.
 
+pub mod bill;
 pub mod completions;
 pub mod csv;
+pub mod digest;
 pub mod extract;
 pub mod extract_one;
 pub mod from_old;

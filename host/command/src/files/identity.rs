@@ -6,8 +6,8 @@ use std::os::unix::fs::MetadataExt;
 /// A file by its device and inode.
 #[derive(Clone, Copy, PartialEq, Eq, Hash, Debug)]
 pub struct FileId {
-    device: u64,
-    inode: u64,
+    pub device: u64,
+    pub inode: u64,
 }
 
 impl FileId {

@@ -8,6 +8,7 @@ use serde_json::ser::Formatter;
 
 use crate::output::Error;
 use crate::output::text::{Hex, Text, is_plain};
+use crate::run::digests::Stream;
 
 /// Writes an object. Every character that could move something on a terminal is escaped, which JSON allows for all.
 pub fn write(object: &impl Serialize, writer: impl Write) -> Result<(), serde_json::Error> {
@@ -91,19 +92,45 @@ impl Kind {
     }
 }
 
-/// What an object is, and which film it is about: the file's name as text and as hex.
+/// What an object is, and which film it is about.
 #[derive(Serialize)]
 pub struct About<'a> {
     #[serde(flatten)]
     kind: Kind,
-    file: AsText<'a>,
-    file_hex: AsHex<'a>,
+    #[serde(flatten)]
+    file: FileName<'a>,
 }
 
 impl<'a> About<'a> {
     pub fn new(kind: &'static str, path: &'a Path) -> About<'a> {
+        About { kind: Kind::new(kind), file: FileName::new(path) }
+    }
+}
+
+/// The name of a film's file as text and as hex.
+#[derive(Serialize)]
+pub struct FileName<'a> {
+    file: AsText<'a>,
+    file_hex: AsHex<'a>,
+}
+
+impl<'a> FileName<'a> {
+    pub fn new(path: &'a Path) -> FileName<'a> {
         let bytes = path.as_os_str().as_encoded_bytes();
-        About { kind: Kind::new(kind), file: AsText(bytes), file_hex: AsHex(bytes) }
+        FileName { file: AsText(bytes), file_hex: AsHex(bytes) }
+    }
+}
+
+/// A clear stream, in an object.
+#[derive(Serialize)]
+pub struct StreamObject<'a> {
+    bytes: u64,
+    sha256: AsHex<'a>,
+}
+
+impl<'a> StreamObject<'a> {
+    pub fn of(stream: &'a Stream) -> StreamObject<'a> {
+        StreamObject { bytes: stream.bytes, sha256: AsHex(&stream.sha256) }
     }
 }
 

@@ -1,5 +1,6 @@
 //! Running a command on many films: where they come from, the workers, and the progress.
 
+pub mod digests;
 pub mod gate;
 pub mod input;
 pub mod lists;

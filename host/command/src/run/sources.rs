@@ -121,6 +121,11 @@ impl Source {
         Source::new(path.to_path_buf(), origin)
     }
 
+    /// A file that was seen already, over links or not. Should it be a pipe by now, it is not waited for.
+    pub fn seen(path: &Path) -> Source {
+        Source::new(path.to_path_buf(), Origin::Followed(PathBuf::new()))
+    }
+
     fn unreadable(path: &Path, why: impl ToString) -> Source {
         Source::new(path.to_path_buf(), Origin::Unreadable(why.to_string()))
     }

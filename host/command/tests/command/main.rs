@@ -1,7 +1,9 @@
 //! The command on real files.
 
+mod bill;
 mod completions;
 mod csv;
+mod digest;
 mod extract;
 mod help;
 mod hostile;

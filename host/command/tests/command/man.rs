@@ -23,6 +23,7 @@ fn examples_run() {
             fs::remove_file(folder.path("cut.usm")).unwrap();
             folder.write("old.usm", &example("old.usm"));
             fs::write(folder.path("tenants.csv"), format!("7,{KEY}\n")).unwrap();
+            folder.write("holdings.csv", format!("tenant,key,film\n7,{KEY},song.usm\n").as_bytes());
             if around[1].contains("cut.usm") {
                 folder.write("cut.usm", &films::f()[..428]);
             }

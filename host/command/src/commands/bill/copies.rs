@@ -1,0 +1,77 @@
+//! A copy of the bill with all that a reader may ask of it: who shares it, and by which films and keys.
+
+use std::path::PathBuf;
+
+use super::books::Books;
+use super::films::Class;
+use super::streams::Apart;
+use crate::output::Error;
+use crate::run::digests::Streams;
+
+pub struct Copy {
+    /// By the lowest tenants, then by the digests, from 1 on.
+    pub number: u64,
+    pub streams: Streams,
+    /// By rising tenant.
+    pub shares: Vec<Share>,
+    /// By their paths.
+    pub films: Vec<Film>,
+}
+
+pub struct Share {
+    pub tenant: u64,
+    pub name: Option<Vec<u8>>,
+    pub bytes: u64,
+}
+
+/// A film that has the streams of a copy, under one class of keys.
+pub struct Film {
+    pub path: PathBuf,
+    pub title: Option<Vec<u8>>,
+    /// The bits of a key that it shows.
+    pub bits: u64,
+    pub keys: Vec<Key>,
+    /// Another copy of this film, and where the two part.
+    pub apart: Option<OtherCopy>,
+}
+
+/// A key under which a film is held, and by whom.
+pub struct Key {
+    pub key: Option<u64>,
+    pub tenants: Vec<u64>,
+}
+
+pub struct OtherCopy {
+    pub number: u64,
+    /// A key that gives it.
+    pub key: Option<u64>,
+    pub at: Apart,
+}
+
+impl Copy {
+    pub fn bytes(&self) -> u64 {
+        self.streams.video.bytes + self.streams.audio.bytes
+    }
+
+    /// The copy's lowest tenant.
+    pub fn group(&self) -> u64 {
+        self.shares.first().map_or(0, |share| share.tenant)
+    }
+}
+
+impl Film {
+    pub fn class(&self) -> Class {
+        super::films::class(self.keys.first().and_then(|key| key.key), self.bits)
+    }
+}
+
+/// Takes every copy, by rising number.
+pub fn each(books: &Books, mut take: impl FnMut(&Copy) -> Result<(), Error>) -> Result<(), Error> {
+    for number in 1.. {
+        match books.copy(number)? {
+            Some(copy) => take(&copy)?,
+            None => break,
+        }
+    }
+    Ok(())
+}

@@ -1,0 +1,124 @@
+//! What is learnt of a film: which bits of a key it shows, and its streams under each class of keys.
+
+use std::collections::HashSet;
+use std::fs;
+use std::io::Seek;
+use std::os::unix::fs::MetadataExt;
+use std::path::Path;
+
+use usm::{Reader, Reading};
+
+use super::streams::{self, Apart};
+use crate::files::identity::FileId;
+use crate::output::Error;
+use crate::run::digests::Streams;
+use crate::run::input::Input;
+use crate::run::progress::Meter;
+use crate::run::sources::Source;
+
+/// Which file a film is, and when it was changed.
+#[derive(Clone, Copy, PartialEq, Eq, Debug)]
+pub struct Identity {
+    pub id: FileId,
+    pub size: u64,
+    /// In nanoseconds.
+    pub mtime: i64,
+}
+
+/// The identity of a film. What is no regular file is not even opened: a pipe would be waited for.
+pub fn identity(path: &Path) -> Result<Identity, String> {
+    let file = fs::metadata(path).map_err(|error| error.to_string())?;
+    if !file.is_file() {
+        return Err("it is no regular file".to_string());
+    }
+    let mtime = file.mtime().saturating_mul(1_000_000_000).saturating_add(file.mtime_nsec());
+    Ok(Identity { id: FileId::of(&file), size: file.len(), mtime })
+}
+
+/// Keys that give a film the same streams: their bits that the film shows, and `None` for the streams as they are stored.
+pub type Class = Option<u64>;
+
+/// The class of a key. A film that shows no bit is not masked, and all its keys are one class with none.
+pub fn class(key: Option<u64>, bits: u64) -> Class {
+    key.filter(|_| bits != 0).map(|key| key & bits)
+}
+
+/// The classes of keys, each once, in the order of the keys.
+pub fn classes(keys: impl Iterator<Item = Option<u64>>, bits: u64) -> Vec<Class> {
+    let mut seen = HashSet::new();
+    keys.map(|key| class(key, bits)).filter(|&class| seen.insert(class)).collect()
+}
+
+/// What a class of keys gives.
+#[derive(Clone, Copy, PartialEq, Eq, Debug)]
+pub struct Found {
+    pub class: Class,
+    pub streams: Streams,
+    /// Where these streams part from those of the first class.
+    pub apart: Option<Apart>,
+}
+
+/// A film that is open. What is learnt of it counts only where its file is the same afterwards.
+pub struct Film<'a> {
+    path: &'a Path,
+    seen: &'a Identity,
+    input: Input,
+}
+
+impl<'a> Film<'a> {
+    /// Opens a film, whose file was seen in a folder: what is no file any more is not waited for.
+    pub fn open(path: &'a Path, seen: &'a Identity) -> Result<Film<'a>, Error> {
+        let input = Source::seen(path).open()?;
+        Ok(Film { path, seen, input })
+    }
+
+    /// The bits of a key that the film shows: the largest number of its payloads (proved).
+    pub fn bits(&mut self, meter: &Meter) -> Result<u64, Error> {
+        self.read(meter, |reader| {
+            let mut bits = 0;
+            while let Some(chunk) = reader.next_chunk()? {
+                bits = bits.max(chunk.mask.key_bits(chunk.length));
+            }
+            Ok(bits)
+        })
+    }
+
+    /// The streams under each class, and where they part from those of the first.
+    pub fn learn(&mut self, classes: &[Class], meter: &Meter) -> Result<Vec<Found>, Error> {
+        self.read(meter, |reader| streams::learn(reader, classes, meter))
+    }
+
+    /// Reads the film from its start on.
+    fn read<T>(
+        &mut self,
+        meter: &Meter,
+        read: impl FnOnce(&mut Reader<&mut Input>) -> Result<T, Error>,
+    ) -> Result<T, Error> {
+        self.input.rewind().map_err(Error::io)?;
+        let done = self.input.reader(Reading::default(), meter).and_then(|mut reader| read(&mut reader));
+        self.check_unchanged()?;
+        done
+    }
+
+    fn check_unchanged(&self) -> Result<(), Error> {
+        match identity(self.path) {
+            Ok(now) if now == *self.seen => Ok(()),
+            _ => Err(Error::System("it changed while it was read".to_string())),
+        }
+    }
+}
+
+#[cfg(test)]
+mod tests {
+    use super::{class, classes};
+
+    #[test]
+    fn keys_are_classes_by_the_bits_that_show() {
+        assert_eq!(class(Some(0xFF12), 0xFF), Some(0x12));
+        assert_eq!(class(None, 0xFF), None);
+        assert_eq!(class(Some(0xFF12), 0), None);
+        let keys = [Some(0x12), None, Some(0xFF12), Some(0x13)];
+        assert_eq!(classes(keys.into_iter(), 0xFF), [Some(0x12), None, Some(0x13)]);
+        assert_eq!(classes(keys.into_iter(), 0), [None]);
+    }
+}

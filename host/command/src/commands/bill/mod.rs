@@ -1,0 +1,160 @@
+//! `usm bill`: which copies there are of a house's films, who shares each, and why.
+
+mod books;
+mod copies;
+mod films;
+mod holdings;
+mod json;
+mod streams;
+mod table;
+mod text;
+mod why;
+
+use std::io::Write;
+use std::path::PathBuf;
+
+use clap::Args;
+
+use crate::output::text::Shown;
+use crate::output::{Error, Output, Status, report, report_error};
+use crate::run::progress::{Meter, Progress};
+use books::{Books, Summary, Wanted};
+use films::{Film, Found, classes};
+use holdings::Holdings;
+
+/// Say which copies there are of a house's films, who shares each, and why
+///
+/// Two holdings share a copy exactly when their unpacked streams, all audio taken, agree byte for byte, whichever films
+/// they come from. A copy's bytes, those of both streams, are divided evenly among its tenants; a remainder goes one byte
+/// each to the lowest tenants. A tenant that holds a copy twice bears one share of it.
+///
+/// HOLDINGS is a CSV file with a heading that names the columns `tenant`, `key` and `film`, in any order and case, with
+/// commas or semicolons. Each line says: this tenant, a decimal number, holds this film under this key, in hex. An empty
+/// key stands for the streams as they are stored. Films are paths that start from the folder of HOLDINGS. The columns
+/// `name` and `title` name the tenant and the film; others are kept for --json. Where a line is wrong, all that are wrong
+/// are reported and no film is read.
+///
+/// A film that is refused, missing or unreadable is listed first with its holdings, the bill is incomplete, and the
+/// status is 1.
+#[derive(Args)]
+pub struct Bill {
+    /// Who holds which film under which key, a CSV file, or - for standard input
+    #[arg(value_name = "HOLDINGS")]
+    holdings: PathBuf,
+    /// Write CSV: a line for each tenant of each copy, by rising tenant, then by the digests
+    #[arg(long, conflicts_with = "json")]
+    csv: bool,
+    /// Write JSON objects, each on a line: the bill with its films, keys and reasons
+    #[arg(long)]
+    json: bool,
+    /// Write the sums by tenant alone
+    #[arg(long)]
+    totals: bool,
+}
+
+impl Bill {
+    pub fn run(self) -> Status {
+        self.bill().unwrap_or_else(report_error)
+    }
+
+    fn bill(&self) -> Result<Status, Error> {
+        let books = Books::new()?;
+        let mut holdings = Holdings::open(&self.holdings)?;
+        let reading = books.together(|| holdings.read(|holding| books.add(holding)))?;
+        if reading.wrong > 0 {
+            let lines = text::counted(reading.wrong, "wrong line");
+            return Ok(report(Status::Failed, &format!("{}: {lines}; no film was read", Shown::path(&self.holdings))));
+        }
+        self.note(&reading);
+        books.together(|| books.find_films(|film| films::identity(&holdings.file(film))))?;
+        books.together(|| learn(&books, &holdings))?;
+        books.bill()?;
+        let summary = books.summary()?;
+        self.write(&books, &summary)?;
+        Ok(if summary.is_incomplete() { Status::Refused } else { Status::Success })
+    }
+
+    /// Keys that may have been meant as decimal numbers.
+    fn note(&self, reading: &holdings::Reading) {
+        if reading.decimal > 0 {
+            let keys = text::counted(reading.decimal, "key");
+            report(
+                Status::Success,
+                &format!(
+                    "note: {}: {keys} of decimal digits alone, the first in line {}; all keys are read as hex",
+                    Shown::path(&self.holdings),
+                    reading.first_decimal
+                ),
+            );
+        }
+    }
+
+    fn write(&self, books: &Books, summary: &Summary) -> Result<(), Error> {
+        let mut output = Output::new(indicatif::ProgressBar::hidden()).map_err(Error::Output)?;
+        if self.csv {
+            warn(books, summary)?;
+        }
+        match (self.csv, self.json, self.totals) {
+            (true, _, true) => table::write_totals(books, &mut output)?,
+            (true, _, false) => table::write_lines(books, &mut output)?,
+            (_, true, true) => json::write_totals(books, summary, &mut output)?,
+            (_, true, false) => json::write(books, summary, &mut output)?,
+            (_, _, true) => {
+                text::write_unbilled(books, summary, &mut output)?;
+                text::write_totals(books, &mut output)?;
+            }
+            (_, _, false) => text::write(books, summary, &mut output)?,
+        }
+        output.flush().map_err(Error::Output)
+    }
+}
+
+/// What is not billed has no place in the CSV's columns, so it goes to standard error.
+fn warn(books: &Books, summary: &Summary) -> Result<(), Error> {
+    books.unbilled(|unbilled| {
+        let (path, line, tenant) = (Shown::path(&unbilled.path), unbilled.line, unbilled.tenant);
+        report(Status::Refused, &format!("line {line}: tenant {tenant}: {path}: {}", unbilled.why));
+        Ok(())
+    })?;
+    if summary.is_incomplete() {
+        let films = text::counted(summary.unbilled_films, "film");
+        report(Status::Refused, &format!("this bill is incomplete: {films} could not be billed"));
+    }
+    Ok(())
+}
+
+/// Learns of every film what the bill needs. Each is read once.
+fn learn(books: &Books, holdings: &Holdings) -> Result<(), Error> {
+    let progress = Progress::new(Some(books.bytes_wanted()?));
+    let mut last = 0;
+    while let Some(wanted) = books.wanted_after(last)? {
+        last = wanted.file;
+        let meter = Meter::new(&progress, 1, wanted.identity.size);
+        match learn_film(books, holdings, &wanted, &meter) {
+            Ok(()) => {}
+            Err(Error::Refused(refusal)) => books.leave_out(wanted.file, &refusal.to_string())?,
+            Err(Error::System(why)) => books.leave_out(wanted.file, &why)?,
+            Err(error) => return Err(error),
+        }
+    }
+    progress.end();
+    Ok(())
+}
+
+fn learn_film(books: &Books, holdings: &Holdings, wanted: &Wanted, meter: &Meter) -> Result<(), Error> {
+    let path = holdings.file(&wanted.path);
+    let mut film = Film::open(&path, &wanted.identity)?;
+    let bits = film.bits(meter)?;
+    let entries = books.entries(wanted.file)?;
+    let learnt = film.learn(&classes(entries.iter().map(|entry| entry.key), bits), meter)?;
+    let mut found = std::collections::HashMap::new();
+    let mut first = None;
+    books.learn_bits(wanted.file, bits)?;
+    for Found { class, streams, apart } in learnt {
+        let apart = first.zip(apart);
+        let streams = books.learn_streams(wanted.file, &streams, apart)?;
+        first.get_or_insert(streams);
+        found.insert(class, streams);
+    }
+    entries.iter().try_for_each(|entry| books.learn_entry(entry.entry, found[&films::class(entry.key, bits)]))
+}
