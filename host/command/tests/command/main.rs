@@ -1,6 +1,8 @@
 //! The command on real files.
 
 mod bill;
+mod bill_ledger;
+mod bill_sql;
 mod completions;
 mod csv;
 mod digest;

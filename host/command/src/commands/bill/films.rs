@@ -2,10 +2,11 @@
 
 use std::collections::HashSet;
 use std::fs;
-use std::io::Seek;
+use std::io::{Read, Seek};
 use std::os::unix::fs::MetadataExt;
 use std::path::Path;
 
+use sha2::{Digest, Sha256};
 use usm::{Reader, Reading};
 
 use super::streams::{self, Apart};
@@ -58,6 +59,9 @@ pub struct Found {
     pub apart: Option<Apart>,
 }
 
+/// So many bytes of a film are hashed at once.
+const PIECE: usize = 256 << 10;
+
 /// A film that is open. What is learnt of it counts only where its file is the same afterwards.
 pub struct Film<'a> {
     path: &'a Path,
@@ -81,6 +85,26 @@ impl<'a> Film<'a> {
             }
             Ok(bits)
         })
+    }
+
+    /// The SHA-256 of the film as it is.
+    pub fn digest(&mut self, meter: &Meter) -> Result<[u8; 32], Error> {
+        let mut sha256 = Sha256::new();
+        self.input.rewind().map_err(Error::io)?;
+        let mut piece = vec![0; PIECE];
+        let mut place = 0;
+        loop {
+            match self.input.read(&mut piece).map_err(Error::io)? {
+                0 => break,
+                count => {
+                    sha256.update(&piece[..count]);
+                    place += count;
+                    meter.reach(place);
+                }
+            }
+        }
+        self.check_unchanged()?;
+        Ok(sha256.finalize().into())
     }
 
     /// The streams under each class, and where they part from those of the first.

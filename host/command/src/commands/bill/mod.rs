@@ -5,6 +5,8 @@ mod copies;
 mod films;
 mod holdings;
 mod json;
+mod learn;
+mod ledger;
 mod streams;
 mod table;
 mod text;
@@ -17,10 +19,10 @@ use clap::Args;
 
 use crate::output::text::Shown;
 use crate::output::{Error, Output, Status, report, report_error};
-use crate::run::progress::{Meter, Progress};
-use books::{Books, Summary, Wanted};
-use films::{Film, Found, classes};
+use books::{Books, Summary};
 use holdings::Holdings;
+use learn::learn;
+use ledger::Ledger;
 
 /// Say which copies there are of a house's films, who shares each, and why
 ///
@@ -50,6 +52,9 @@ pub struct Bill {
     /// Write the sums by tenant alone
     #[arg(long)]
     totals: bool,
+    /// Keep what is learnt of films in this SQLite file, so that the next run reads only what is new or changed
+    #[arg(long, value_name = "FILE")]
+    ledger: Option<PathBuf>,
 }
 
 impl Bill {
@@ -59,6 +64,7 @@ impl Bill {
 
     fn bill(&self) -> Result<Status, Error> {
         let books = Books::new()?;
+        let ledger = self.ledger.as_deref().map(Ledger::open).transpose()?;
         let mut holdings = Holdings::open(&self.holdings)?;
         let reading = books.together(|| holdings.read(|holding| books.add(holding)))?;
         if reading.wrong > 0 {
@@ -67,7 +73,14 @@ impl Bill {
         }
         self.note(&reading);
         books.together(|| books.find_films(|film| films::identity(&holdings.file(film))))?;
-        books.together(|| learn(&books, &holdings))?;
+        let learnt = books.together(|| learn(&books, &holdings, ledger.as_ref()))?;
+        if let Some(ledger) = &self.ledger {
+            let [known, read] = [learnt.known, learnt.read].map(text::grouped);
+            report(
+                Status::Success,
+                &format!("note: {}: {known} films were known, {read} were read", Shown::path(ledger)),
+            );
+        }
         books.bill()?;
         let summary = books.summary()?;
         self.write(&books, &summary)?;
@@ -121,40 +134,4 @@ fn warn(books: &Books, summary: &Summary) -> Result<(), Error> {
         report(Status::Refused, &format!("this bill is incomplete: {films} could not be billed"));
     }
     Ok(())
-}
-
-/// Learns of every film what the bill needs. Each is read once.
-fn learn(books: &Books, holdings: &Holdings) -> Result<(), Error> {
-    let progress = Progress::new(Some(books.bytes_wanted()?));
-    let mut last = 0;
-    while let Some(wanted) = books.wanted_after(last)? {
-        last = wanted.file;
-        let meter = Meter::new(&progress, 1, wanted.identity.size);
-        match learn_film(books, holdings, &wanted, &meter) {
-            Ok(()) => {}
-            Err(Error::Refused(refusal)) => books.leave_out(wanted.file, &refusal.to_string())?,
-            Err(Error::System(why)) => books.leave_out(wanted.file, &why)?,
-            Err(error) => return Err(error),
-        }
-    }
-    progress.end();
-    Ok(())
-}
-
-fn learn_film(books: &Books, holdings: &Holdings, wanted: &Wanted, meter: &Meter) -> Result<(), Error> {
-    let path = holdings.file(&wanted.path);
-    let mut film = Film::open(&path, &wanted.identity)?;
-    let bits = film.bits(meter)?;
-    let entries = books.entries(wanted.file)?;
-    let learnt = film.learn(&classes(entries.iter().map(|entry| entry.key), bits), meter)?;
-    let mut found = std::collections::HashMap::new();
-    let mut first = None;
-    books.learn_bits(wanted.file, bits)?;
-    for Found { class, streams, apart } in learnt {
-        let apart = first.zip(apart);
-        let streams = books.learn_streams(wanted.file, &streams, apart)?;
-        first.get_or_insert(streams);
-        found.insert(class, streams);
-    }
-    entries.iter().try_for_each(|entry| books.learn_entry(entry.entry, found[&films::class(entry.key, bits)]))
 }
