@@ -340,7 +340,7 @@ fn where_two_copies_of_a_film_part() {
             .unwrap()
             .start;
         let class = keys[1].map_or("null".to_string(), |key: u64| format!("\"{key:016X}\""));
-        let part = format!("\"stream\":\"{stream}\",\"byte\":{byte},\"chunk\":{chunk}}}");
+        let part = format!("\"stream\":\"{stream}\",\"byte\":{byte},\"chunk\":{chunk},");
         let found = run.out.lines().any(|line| {
             line.contains("\"kind\":\"copy\"")
                 && line.contains(&format!("\"file\":\"{name}\""))

@@ -2,6 +2,7 @@
 
 mod bill;
 mod bill_ledger;
+mod bill_page;
 mod bill_sql;
 mod completions;
 mod csv;

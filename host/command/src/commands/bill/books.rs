@@ -404,6 +404,27 @@ impl Books {
         Ok(Some(Copy { number, streams, shares: self.shares(copy)?, films }))
     }
 
+    /// The numbers of the copies that a tenant shares, rising.
+    pub fn copies_of(&self, tenant: u64) -> Result<Vec<u64>, Error> {
+        self.all(
+            "SELECT number FROM line JOIN copy USING (copy) WHERE way = 1 AND tenant = ?1 ORDER BY number",
+            [stored(tenant)],
+            |row| row.get(0),
+        )
+    }
+
+    pub fn has_tenant(&self, tenant: u64) -> Result<bool, Error> {
+        Ok(self.one("SELECT 1 FROM tenant WHERE tenant = ?1", [stored(tenant)], |_| Ok(()))?.is_some())
+    }
+
+    /// Whether a file is one of the films.
+    pub fn has_file(&self, id: FileId) -> Result<bool, Error> {
+        let FileId { device, inode } = id;
+        let found =
+            self.one("SELECT 1 FROM file WHERE device = ?1 AND inode = ?2", [device as i64, inode as i64], |_| Ok(()))?;
+        Ok(found.is_some())
+    }
+
     fn shares(&self, copy: i64) -> Result<Vec<Share>, Error> {
         self.all(
             "SELECT tenant, name, share FROM line JOIN tenant USING (tenant) WHERE way = 1 AND copy = ?1 ORDER BY tenant",
@@ -448,7 +469,7 @@ impl Books {
 
     /// Where streams part from those of the film's first class of keys, and which copy that is.
     fn apart(&self, streams: i64) -> Result<Option<OtherCopy>, Error> {
-        self.one(
+        let found = self.one(
             "SELECT number, given, key, apart_in_audio, apart_byte, apart_chunk
                 FROM streams JOIN member ON member.streams = apart_from JOIN entry ON entry.streams = apart_from
                     JOIN held USING (entry)
@@ -456,8 +477,23 @@ impl Books {
             [streams],
             |row| {
                 let at = Apart { is_audio: row.get(3)?, byte: row.get(4)?, chunk: row.get(5)? };
-                Ok(OtherCopy { number: row.get(0)?, key: key_of(row.get(1)?, row.get(2)?), at })
+                let (number, key) = (row.get(0)?, key_of(row.get(1)?, row.get(2)?));
+                Ok(OtherCopy { number, key, at, both: Vec::new() })
             },
+        )?;
+        let complete = |other| Ok(OtherCopy { both: self.who_holds_both(streams)?, ..other });
+        found.map(complete).transpose()
+    }
+
+    /// The tenants that hold a film under a key of its first class and under one that gives these streams.
+    fn who_holds_both(&self, streams: i64) -> Result<Vec<u64>, Error> {
+        self.all(
+            "SELECT DISTINCT held.tenant FROM streams JOIN entry USING (streams) JOIN held USING (entry)
+                JOIN entry AS first ON first.streams = apart_from
+                JOIN held AS other ON other.entry = first.entry AND other.tenant = held.tenant
+                WHERE streams.streams = ?1 ORDER BY 1",
+            [streams],
+            |row| row.get(0).map(number),
         )
     }
 

@@ -46,11 +46,19 @@ pub struct OtherCopy {
     /// A key that gives it.
     pub key: Option<u64>,
     pub at: Apart,
+    /// Tenants that hold the film under a key of each.
+    pub both: Vec<u64>,
 }
 
 impl Copy {
     pub fn bytes(&self) -> u64 {
         self.streams.video.bytes + self.streams.audio.bytes
+    }
+
+    /// The name of a tenant that shares it.
+    pub fn name(&self, tenant: u64) -> Option<&[u8]> {
+        let at = self.shares.binary_search_by_key(&tenant, |share| share.tenant).ok()?;
+        self.shares[at].name.as_deref()
     }
 
     /// The copy's lowest tenant.

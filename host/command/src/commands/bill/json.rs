@@ -168,6 +168,8 @@ struct ApartObject {
     stream: &'static str,
     byte: u64,
     chunk: u64,
+    /// Tenants that hold the film under a key of each.
+    both: Vec<String>,
 }
 
 fn copy_object(copy: &Copy) -> CopyObject<'_> {
@@ -204,7 +206,13 @@ fn key_object(key: &Key) -> KeyObject {
 
 fn apart_object(other: &OtherCopy) -> ApartObject {
     let stream = if other.at.is_audio { "audio" } else { "video" };
-    ApartObject { from_copy: other.number, stream, byte: other.at.byte, chunk: other.at.chunk }
+    ApartObject {
+        from_copy: other.number,
+        stream,
+        byte: other.at.byte,
+        chunk: other.at.chunk,
+        both: other.both.iter().map(u64::to_string).collect(),
+    }
 }
 
 /// A line of HOLDINGS with the copy that it shares.

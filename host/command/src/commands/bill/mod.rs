@@ -2,27 +2,36 @@
 
 mod books;
 mod copies;
+mod date;
 mod films;
 mod holdings;
 mod json;
 mod learn;
 mod ledger;
+mod page;
+mod page_file;
 mod streams;
 mod table;
 mod text;
 mod why;
 
+use std::fs;
 use std::io::Write;
 use std::path::PathBuf;
 
 use clap::Args;
 
+use crate::files::identity::FileId;
 use crate::output::text::Shown;
 use crate::output::{Error, Output, Status, report, report_error};
 use books::{Books, Summary};
 use holdings::Holdings;
 use learn::learn;
 use ledger::Ledger;
+use page::Reader;
+
+/// Why a file must not be replaced.
+type IsKept<'a> = &'a dyn Fn(FileId) -> Option<String>;
 
 /// Say which copies there are of a house's films, who shares each, and why
 ///
@@ -55,6 +64,13 @@ pub struct Bill {
     /// Keep what is learnt of films in this SQLite file, so that the next run reads only what is new or changed
     #[arg(long, value_name = "FILE")]
     ledger: Option<PathBuf>,
+    /// Write the bill as a page to this file, in the place of one that is there. Standard output then has only what
+    /// --csv, --json or --totals asks for
+    #[arg(long, value_name = "FILE")]
+    html: Option<PathBuf>,
+    /// Make the page for this tenant: its own lines, and of other keys only where they agree with its own
+    #[arg(long, value_name = "TENANT", requires = "html")]
+    tenant: Option<u64>,
 }
 
 impl Bill {
@@ -83,7 +99,10 @@ impl Bill {
         }
         books.bill()?;
         let summary = books.summary()?;
-        self.write(&books, &summary)?;
+        self.write_page(&books, &summary)?;
+        if self.html.is_none() || self.csv || self.json || self.totals {
+            self.write(&books, &summary)?;
+        }
         Ok(if summary.is_incomplete() { Status::Refused } else { Status::Success })
     }
 
@@ -100,6 +119,24 @@ impl Bill {
                 ),
             );
         }
+    }
+
+    fn write_page(&self, books: &Books, summary: &Summary) -> Result<(), Error> {
+        let Some(path) = &self.html else { return Ok(()) };
+        let reader = match self.tenant {
+            None => Reader::House,
+            Some(tenant) if books.has_tenant(tenant)? => Reader::Tenant(tenant),
+            Some(tenant) => return Err(Error::with(&self.holdings, format!("no line is of tenant {tenant}"))),
+        };
+        let is_kept = |id: FileId| self.is_read(books, id).then(|| "this bill is made of it".to_string());
+        page_file::write(path, &is_kept, |file| page::write(books, summary, reader, file))
+    }
+
+    /// Whether a file is one that the bill is made of: the holdings, the ledger or a film.
+    fn is_read(&self, books: &Books, id: FileId) -> bool {
+        let named = [Some(&self.holdings), self.ledger.as_ref()];
+        let mut files = named.into_iter().flatten().filter_map(|path| fs::metadata(path).ok());
+        files.any(|file| FileId::of(&file) == id) || books.has_file(id).unwrap_or(true)
     }
 
     fn write(&self, books: &Books, summary: &Summary) -> Result<(), Error> {

@@ -109,13 +109,13 @@ fn write_film(film: &Film, output: &mut Output) -> Result<(), Error> {
 
 /// Another copy of the same film: which digits tell the two apart, and where the streams part.
 fn write_apart(film: &Film, other: &OtherCopy, output: &mut Output) -> Result<(), Error> {
-    let OtherCopy { number, key, at } = other;
+    let OtherCopy { number, key, at, both } = other;
     let own = film.keys.first().and_then(|key| key.key);
     print_to!(output, "    Apart from copy {number} of this film");
     if let (Some(own), Some(key)) = (own, *key) {
         let differ = (own ^ key) & film.bits;
         let differs = marks(|place| if has(differ, place) { '^' } else { '.' });
-        print_to!(output, ": {} differs, which counts\n", why::digits_in_words(differ));
+        print_to!(output, ": the keys differ in {}\n", why::in_digits(differ));
         print_to!(output, "    {}  copy {number}\n    {differs}  ^ differs and counts", digits(Some(key)));
     }
     let stream = if at.is_audio { "audio" } else { "video" };
@@ -125,6 +125,9 @@ fn write_apart(film: &Film, other: &OtherCopy, output: &mut Output) -> Result<()
         grouped(at.byte),
         grouped(at.chunk)
     );
+    if !both.is_empty() {
+        print_to!(output, "    Held under both by {}: one key may be mistyped\n", tenants(both));
+    }
     Ok(())
 }
 

@@ -61,9 +61,9 @@ impl Why {
 /// Why the films of a copy are one copy: a sentence before those about each film.
 pub fn sentence(copy: &Copy) -> String {
     match (copy.films.len(), copy.shares.len()) {
-        (0 | 1, 1) => "One film, and no other tenant has its streams.".to_string(),
-        (0 | 1, _) => "One film.".to_string(),
-        (films, _) => format!("{films} films, the same streams: sizes and digests of all of them are those above."),
+        (0 | 1, 1) => "No other tenant has these streams.".to_string(),
+        (0 | 1, _) => "One film serves all of them.".to_string(),
+        (films, _) => format!("{films} films, the same streams: the sizes and the digests of all of them agree."),
     }
 }
 
@@ -72,9 +72,19 @@ pub fn bits_that_count() -> u64 {
     (0..64).map(|bit| 1 << bit).filter(|&key| usm::key_table(key) != usm::key_table(0)).sum()
 }
 
-/// Whether a digit, by its place from the left, has a bit of these.
+/// The digit at a place from the left.
+pub fn digit(key: u64, place: usize) -> u64 {
+    key >> (4 * (PLACES - 1 - place)) & 0xF
+}
+
+/// Whether the digit at a place from the left has a bit of these.
 pub fn has(bits: u64, place: usize) -> bool {
-    bits >> (4 * (PLACES - 1 - place)) & 0xF != 0
+    digit(bits, place) != 0
+}
+
+/// How many digits have a bit of these.
+pub fn how_many(bits: u64) -> usize {
+    (0..PLACES).filter(|&place| has(bits, place)).count()
 }
 
 /// Sixteen marks, one for each digit.
@@ -101,13 +111,13 @@ const ORDINALS: [&str; PLACES] = [
     "sixteenth",
 ];
 
-/// The digits that have a bit of these, in words: the first, the second and the seventh.
-pub fn digits_in_words(bits: u64) -> String {
+/// The digits that have a bit of these, in words: the first, the second and the seventh digit.
+pub fn in_digits(bits: u64) -> String {
     let names: Vec<&str> = (0..PLACES).filter(|&place| has(bits, place)).map(|place| ORDINALS[place]).collect();
     match names.as_slice() {
-        [] => "none".to_string(),
-        [one] => format!("the {one}"),
-        [most @ .., last] => format!("the {} and the {last}", most.join(", the ")),
+        [] => "no digit".to_string(),
+        [one] => format!("the {one} digit"),
+        [most @ .., last] => format!("the {} and the {last} digit", most.join(", the ")),
     }
 }
 
@@ -116,7 +126,7 @@ mod tests {
     use std::path::PathBuf;
 
     use super::super::copies::{Film, Key};
-    use super::{Why, bits_that_count, digits_in_words, marks};
+    use super::{Why, bits_that_count, digit, in_digits, marks};
 
     fn film(bits: u64, keys: &[Option<u64>]) -> Film {
         let keys = keys.iter().map(|&key| Key { key, tenants: vec![1] }).collect();
@@ -137,7 +147,11 @@ mod tests {
     #[test]
     fn digits() {
         assert_eq!(marks(|place| if super::has(0x00FF_FF0F_FFFF_FFFF, place) { '+' } else { '-' }), "--++++-+++++++++");
-        assert_eq!(digits_in_words(0xFF00_00F0_0000_0000), "the first, the second and the seventh");
-        assert_eq!(digits_in_words(1), "the sixteenth");
+        assert_eq!(in_digits(0xFF00_00F0_0000_0000), "the first, the second and the seventh digit");
+        assert_eq!(in_digits(1), "the sixteenth digit");
+        assert_eq!(
+            (0..16).map(|place| digit(0x0123_4567_89AB_CDEF, place)).collect::<Vec<_>>(),
+            (0..16).collect::<Vec<_>>()
+        );
     }
 }
