@@ -1,5 +1,6 @@
 //! The command on real files.
 
+mod answer;
 mod bill;
 mod bill_ledger;
 mod bill_page;

@@ -450,6 +450,7 @@ impl Books {
         members.into_iter().map(complete).collect()
     }
 
+    /// The keys that give streams, by their lowest tenants.
     fn keys(&self, streams: i64) -> Result<Vec<Key>, Error> {
         let mut keys: Vec<Key> = Vec::new();
         self.each(
@@ -464,16 +465,20 @@ impl Books {
                 Ok(())
             },
         )?;
+        keys.sort_by_key(|key| key.tenants.first().copied());
         Ok(keys)
     }
 
-    /// Where streams part from those of the film's first class of keys, and which copy that is.
+    /// Where streams part from those of the film's first class of keys, and which copy that is. Of the keys that give it
+    /// one is taken that a tenant holds who has these streams too.
     fn apart(&self, streams: i64) -> Result<Option<OtherCopy>, Error> {
         let found = self.one(
             "SELECT number, given, key, apart_in_audio, apart_byte, apart_chunk
                 FROM streams JOIN member ON member.streams = apart_from JOIN entry ON entry.streams = apart_from
                     JOIN held USING (entry)
-                WHERE streams.streams = ?1 AND apart_byte IS NOT NULL ORDER BY tenant, given, key LIMIT 1",
+                WHERE streams.streams = ?1 AND apart_byte IS NOT NULL
+                ORDER BY tenant IN (SELECT tenant FROM entry JOIN held USING (entry) WHERE streams = ?1) DESC,
+                    tenant, given, key LIMIT 1",
             [streams],
             |row| {
                 let at = Apart { is_audio: row.get(3)?, byte: row.get(4)?, chunk: row.get(5)? };
