@@ -1,6 +1,8 @@
 //! The books of one bill: holdings, films and streams in a temporary database, which SQLite keeps in memory as far as
 //! its cache goes and on the disk beyond that. Groups and shares are computed by bill.sql.
 
+use std::cell::RefCell;
+use std::collections::HashMap;
 use std::ffi::OsString;
 use std::os::unix::ffi::{OsStrExt, OsStringExt};
 use std::path::{Path, PathBuf};
@@ -19,8 +21,10 @@ use crate::run::digests::{Stream, Streams};
 const BILL: &str = include_str!("bill.sql");
 
 const TABLES: &str = "
-    PRAGMA cache_size = -16384;
+    PRAGMA cache_size = -8192;
     PRAGMA temp_store = FILE;
+    PRAGMA journal_mode = OFF;
+    PRAGMA synchronous = OFF;
     CREATE TABLE tenant (tenant INTEGER PRIMARY KEY, name BLOB);
     CREATE TABLE film (film INTEGER PRIMARY KEY, path BLOB NOT NULL UNIQUE, title BLOB, file INTEGER);
     CREATE TABLE holding (line INTEGER PRIMARY KEY, tenant INTEGER NOT NULL, film INTEGER NOT NULL,
@@ -36,12 +40,15 @@ const TABLES: &str = "
         apart_chunk INTEGER);
     CREATE INDEX streams_file ON streams (file);";
 
-/// Every holding of a film, that is, of a file: one that is named by two paths is one film.
+/// Every holding of a film, that is, of a file: one that is named by two paths is one film. Rows are put in by rising
+/// keys, so that no page is gone to twice.
 const ENTRIES: &str = "
+    INSERT OR IGNORE INTO tenant (tenant) SELECT DISTINCT tenant FROM holding ORDER BY 1;
     INSERT INTO entry (file, given, key)
         SELECT DISTINCT film.file, holding.given, holding.key FROM holding JOIN film USING (film) ORDER BY 1, 2, 3;
-    INSERT OR IGNORE INTO held (tenant, entry)
-        SELECT holding.tenant, entry.entry FROM holding JOIN film USING (film) JOIN entry USING (file, given, key);";
+    INSERT INTO held (entry, tenant)
+        SELECT DISTINCT entry.entry, holding.tenant
+            FROM holding JOIN film USING (film) JOIN entry USING (file, given, key) ORDER BY 1, 2;";
 
 /// The bill's lines, then its copies: numbered for a reader by their lowest tenants, then by their digests.
 const COPIES: &str = "
@@ -59,7 +66,14 @@ const COPIES: &str = "
     CREATE INDEX film_file ON film (file);
     CREATE INDEX entry_streams ON entry (streams);";
 
-pub struct Books(Connection);
+pub struct Books {
+    database: Connection,
+    /// The films of holdings that were put in last.
+    films: RefCell<HashMap<Vec<u8>, i64>>,
+}
+
+/// So many films are remembered while holdings are put in.
+const REMEMBERED: usize = 10_000;
 
 /// A film that is to be learnt of.
 pub struct Wanted {
@@ -141,17 +155,17 @@ impl Summary {
 impl Books {
     pub fn new() -> Result<Books, Error> {
         // An empty name stands for a temporary file that nobody else sees.
-        let books = Books(Connection::open("").map_err(error)?);
+        let books = Books { database: Connection::open("").map_err(error)?, films: RefCell::default() };
         books.run(TABLES)?;
         Ok(books)
     }
 
     fn run(&self, text: &str) -> Result<(), Error> {
-        self.0.execute_batch(text).map_err(error)
+        self.database.execute_batch(text).map_err(error)
     }
 
     fn execute(&self, text: &str, values: impl Params) -> Result<(), Error> {
-        self.0.prepare_cached(text).and_then(|mut statement| statement.execute(values)).map_err(error)?;
+        self.database.prepare_cached(text).and_then(|mut statement| statement.execute(values)).map_err(error)?;
         Ok(())
     }
 
@@ -161,7 +175,10 @@ impl Books {
         values: impl Params,
         of: impl FnOnce(&Row) -> Result<T, rusqlite::Error>,
     ) -> Result<Option<T>, Error> {
-        self.0.prepare_cached(text).and_then(|mut statement| statement.query_row(values, of).optional()).map_err(error)
+        self.database
+            .prepare_cached(text)
+            .and_then(|mut statement| statement.query_row(values, of).optional())
+            .map_err(error)
     }
 
     fn all<T>(
@@ -171,7 +188,7 @@ impl Books {
         of: impl FnMut(&Row) -> Result<T, rusqlite::Error>,
     ) -> Result<Vec<T>, Error> {
         let all = |mut statement: rusqlite::CachedStatement| statement.query_map(values, of)?.collect();
-        self.0.prepare_cached(text).and_then(all).map_err(error)
+        self.database.prepare_cached(text).and_then(all).map_err(error)
     }
 
     fn each<T>(
@@ -181,7 +198,7 @@ impl Books {
         of: impl Fn(&Row) -> Result<T, rusqlite::Error>,
         mut take: impl FnMut(T) -> Result<(), Error>,
     ) -> Result<(), Error> {
-        let mut statement = self.0.prepare_cached(text).map_err(error)?;
+        let mut statement = self.database.prepare_cached(text).map_err(error)?;
         let mut rows = statement.query(values).map_err(error)?;
         while let Some(row) = rows.next().map_err(error)? {
             take(of(row).map_err(error)?)?;
@@ -199,23 +216,41 @@ impl Books {
 
     /// Puts a holding into the books.
     pub fn add(&self, holding: &Holding) -> Result<(), Error> {
-        let path = holding.film.as_os_str().as_bytes();
         let tenant = stored(holding.tenant);
+        if let Some(name) = holding.further("name") {
+            self.execute(
+                "INSERT INTO tenant VALUES (?1, ?2) ON CONFLICT DO UPDATE SET name = excluded.name
+                    WHERE name IS NULL OR excluded.name < name",
+                params![tenant, name],
+            )?;
+        }
+        let film = self.film(holding)?;
+        let (given, key) = stored_key(holding.key);
         self.execute(
-            "INSERT INTO tenant VALUES (?1, ?2) ON CONFLICT DO UPDATE SET name = excluded.name
-                WHERE excluded.name IS NOT NULL AND (name IS NULL OR excluded.name < name)",
-            params![tenant, holding.further("name")],
-        )?;
+            "INSERT INTO holding VALUES (?1, ?2, ?3, ?4, ?5, ?6)",
+            params![holding.line, tenant, film, given, key, further(holding)],
+        )
+    }
+
+    /// The film of a holding, with its title where it has one.
+    fn film(&self, holding: &Holding) -> Result<i64, Error> {
+        let path = holding.film.as_os_str().as_bytes();
+        let title = holding.further("title");
+        let mut films = self.films.borrow_mut();
+        if let (Some(&film), None) = (films.get(path), title) {
+            return Ok(film);
+        }
         self.execute(
             "INSERT INTO film (path, title) VALUES (?1, ?2) ON CONFLICT DO UPDATE SET title = excluded.title
                 WHERE excluded.title IS NOT NULL AND (title IS NULL OR excluded.title < title)",
-            params![path, holding.further("title")],
+            params![path, title],
         )?;
-        let (given, key) = stored_key(holding.key);
-        self.execute(
-            "INSERT INTO holding SELECT ?1, ?2, film, ?4, ?5, ?6 FROM film WHERE path = ?3",
-            params![holding.line, tenant, path, given, key, further(holding)],
-        )
+        let film = self.one("SELECT film FROM film WHERE path = ?1", [path], |row| row.get(0))?.unwrap_or(0);
+        if films.len() == REMEMBERED {
+            films.clear();
+        }
+        films.insert(path.to_vec(), film);
+        Ok(film)
     }
 
     /// Finds the file of every film. Two paths of one file are one film, and the lower path is its name.
@@ -253,7 +288,7 @@ impl Books {
             }
             Err(why) => {
                 self.execute("INSERT INTO file (path, error) VALUES (?1, ?2)", params![path, why])?;
-                Some(self.0.last_insert_rowid())
+                Some(self.database.last_insert_rowid())
             }
         };
         self.execute("UPDATE film SET file = ?2 WHERE film = ?1", params![film, file])
@@ -311,7 +346,7 @@ impl Books {
                 apart.map(|apart| apart.chunk)
             ],
         )?;
-        Ok(self.0.last_insert_rowid())
+        Ok(self.database.last_insert_rowid())
     }
 
     /// Says which streams a film has under a key.
