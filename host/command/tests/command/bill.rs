@@ -111,7 +111,7 @@ fn copies_are_told_apart_by_their_bytes() {
 fn the_order_of_holdings_moves_no_line() {
     let (folder, ..) = house();
     folder.write("other.usm", &packed(&stream(4, 2000), b"", 7));
-    let mut holdings = vec![
+    let mut holdings = [
         "10,1A,north.usm",
         "20,2B,east.usm",
         "30,3C,south.usm",

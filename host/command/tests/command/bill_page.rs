@@ -37,7 +37,7 @@ fn house() -> Folder {
         format!("30,South,{south},south.usm,"),
         format!("20,East & Co,{a},short.usm,"),
         format!("30,South,{short},short.usm,"),
-        format!("10,North,,short.usm,"),
+        "10,North,,short.usm,".to_string(),
         format!("10,North,{a},broken.usm,"),
     ];
     folder.write("house.csv", format!("tenant,name,key,film,title\n{}\n", lines.join("\n")).as_bytes());

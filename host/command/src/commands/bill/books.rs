@@ -3,7 +3,7 @@
 
 use std::cell::RefCell;
 use std::collections::HashMap;
-use std::ffi::OsString;
+use std::ffi::{OsStr, OsString};
 use std::os::unix::ffi::{OsStrExt, OsStringExt};
 use std::path::{Path, PathBuf};
 
@@ -255,24 +255,24 @@ impl Books {
 
     /// Finds the file of every film. Two paths of one file are one film, and the lower path is its name.
     pub fn find_films(&self, mut find: impl FnMut(&Path) -> Result<Identity, String>) -> Result<(), Error> {
-        let mut last = None;
+        // No path is empty.
+        let mut last = Vec::new();
         loop {
-            let films = self.all(
-                "SELECT film, path FROM film WHERE path > ?1 OR ?1 IS NULL ORDER BY path LIMIT 1000",
-                [&last],
-                |row| Ok((row.get(0)?, row.get(1)?)),
-            )?;
+            let films =
+                self.all("SELECT film, path FROM film WHERE path > ?1 ORDER BY path LIMIT 1000", [&last], |row| {
+                    Ok((row.get::<_, i64>(0)?, row.get::<_, Vec<u8>>(1)?))
+                })?;
             for (film, path) in &films {
-                self.place(*film, path, find(&path_of(path)))?;
+                self.place(*film, path, find(Path::new(OsStr::from_bytes(path))))?;
             }
             match films.into_iter().next_back() {
-                Some((_, path)) => last = Some(path),
+                Some((_, path)) => last = path,
                 None => return self.run(ENTRIES),
             }
         }
     }
 
-    fn place(&self, film: i64, path: &Vec<u8>, found: Result<Identity, String>) -> Result<(), Error> {
+    fn place(&self, film: i64, path: &[u8], found: Result<Identity, String>) -> Result<(), Error> {
         let file = match found {
             Ok(identity) => {
                 let Identity { id: FileId { device, inode }, size, mtime } = identity;
@@ -308,7 +308,7 @@ impl Books {
             |row| {
                 let [device, inode] = [row.get::<_, i64>(2)?, row.get(3)?].map(|number| number as u64);
                 let identity = Identity { id: FileId { device, inode }, size: row.get(4)?, mtime: row.get(5)? };
-                Ok(Wanted { file: row.get(0)?, path: path_of(&row.get(1)?), identity })
+                Ok(Wanted { file: row.get(0)?, path: path_of(row.get(1)?), identity })
             },
         )
     }
@@ -476,7 +476,7 @@ impl Books {
             [copy],
             |row| {
                 let bits = row.get::<_, i64>(3)? as u64;
-                let (path, title, keys) = (path_of(&row.get(1)?), row.get(2)?, Vec::new());
+                let (path, title, keys) = (path_of(row.get(1)?), row.get(2)?, Vec::new());
                 Ok((row.get(0)?, Film { path, title, bits, keys, apart: None }))
             },
         )?;
@@ -545,7 +545,7 @@ impl Books {
             [],
             |row| {
                 let (line, tenant, key) = (row.get(0)?, number(row.get(1)?), key_of(row.get(2)?, row.get(3)?));
-                let (path, copy, further) = (path_of(&row.get(4)?), row.get(5)?, row.get(6)?);
+                let (path, copy, further) = (path_of(row.get(4)?), row.get(5)?, row.get(6)?);
                 Ok(HeldLine { line, tenant, key, path, copy, further })
             },
             take,
@@ -560,7 +560,7 @@ impl Books {
             [],
             |row| {
                 let (line, tenant) = (row.get(0)?, number(row.get(1)?));
-                Ok(Unbilled { line, tenant, path: path_of(&row.get(2)?), why: row.get(3)? })
+                Ok(Unbilled { line, tenant, path: path_of(row.get(2)?), why: row.get(3)? })
             },
             take,
         )
@@ -589,8 +589,8 @@ fn key_of(given: bool, key: i64) -> Option<u64> {
     given.then(|| number(key))
 }
 
-fn path_of(bytes: &Vec<u8>) -> PathBuf {
-    OsString::from_vec(bytes.clone()).into()
+fn path_of(bytes: Vec<u8>) -> PathBuf {
+    OsString::from_vec(bytes).into()
 }
 
 fn streams_of(row: &Row, at: usize) -> Result<Streams, rusqlite::Error> {
