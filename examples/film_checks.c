@@ -104,6 +104,30 @@ static void try_layout(void)
     CHECK(offsetof(struct usm_chunk, channel) == 10);
     CHECK(offsetof(struct usm_chunk, offset) == 12);
     CHECK(offsetof(struct usm_chunk, length) == 16);
+    CHECK(sizeof(struct usm_open_reply) == 72);
+    CHECK(offsetof(struct usm_open_reply, film) == 0);
+    CHECK(offsetof(struct usm_open_reply, chunks) == 56);
+    CHECK(offsetof(struct usm_open_reply, more) == 64);
+    CHECK(sizeof(struct usm_film_audio) == 8);
+    CHECK(offsetof(struct usm_film_audio, codec) == 0);
+    CHECK(offsetof(struct usm_film_audio, present) == 4);
+    CHECK(offsetof(struct usm_film_audio, has_codec) == 5);
+    CHECK(sizeof(struct usm_step_reply) == 40);
+    CHECK(offsetof(struct usm_step_reply, refused_at) == 0);
+    CHECK(offsetof(struct usm_step_reply, next) == 8);
+    CHECK(offsetof(struct usm_step_reply, payload) == 16);
+    CHECK(offsetof(struct usm_step_reply, length) == 24);
+    CHECK(offsetof(struct usm_step_reply, number) == 32);
+    CHECK(offsetof(struct usm_step_reply, unknown_type) == 33);
+    CHECK(offsetof(struct usm_step_reply, found) == 34);
+    CHECK(offsetof(struct usm_step_reply, kind) == 35);
+    CHECK(offsetof(struct usm_step_reply, data_type) == 36);
+    CHECK(offsetof(struct usm_step_reply, channel) == 37);
+    CHECK(offsetof(struct usm_step_reply, mask) == 38);
+    CHECK(sizeof(struct usm_key_bits_reply) == 24);
+    CHECK(offsetof(struct usm_key_bits_reply, bits) == 8);
+    CHECK(offsetof(struct usm_key_bits_reply, number) == 16);
+    CHECK(offsetof(struct usm_key_bits_reply, unknown_type) == 17);
 }
 
 /* F's video stream is 32 zeros, it has no audio, and its name is the fallback. */
@@ -340,6 +364,68 @@ static void try_payloads(void)
     CHECK(list(film, len, USM_READ_WITH_AUDIO, SONG_CHUNKS).number == USM_ACCEPTED);
 }
 
+/* A beginning of the song: more is needed up to a length, and from there on the header is that of the whole. */
+static void try_beginnings(void)
+{
+    const uint8_t *film = song.stored.bytes;
+    size_t total = song.stored.len, len, enough;
+    struct usm_film_reply whole = usm_extract(film, total, USM_READ_WITH_AUDIO, USM_NO_KEY, NULL, 0, lent.video,
+                                              sizeof lent.video, lent.audio, sizeof lent.audio);
+
+    whole.video_size = whole.audio_size = 0;
+    for (enough = 0; usm_open(film, enough, total, USM_READ_WITH_AUDIO).more == 1; enough++)
+        CHECK(enough < 704);
+    for (len = 0; len <= total; len++) {
+        struct usm_open_reply reply = usm_open(len == 0 ? NULL : film, len, total, USM_READ_WITH_AUDIO);
+
+        CHECK(reply.more == (len < enough));
+        CHECK(reply.chunks == (len < enough ? 0 : 704));
+        CHECK(same_film(reply.film, len < enough ? refused_film(0, 0, 0, 0, 0) : whole));
+    }
+    CHECK(usm_open(film, 4, (size_t)USM_CONTAINER_BYTES + 1, USM_READ_WITH_AUDIO).film.number == USM_TOO_LONG);
+}
+
+/* The song by steps: its listing, and its clear streams. */
+static void try_steps(void)
+{
+    struct usm_open_reply opened = usm_open(song.stored.bytes, 704, song.stored.len, USM_READ_WITH_AUDIO);
+    struct usm_film_audio audio = usm_audio_of(opened.film);
+    size_t total = song.stored.len, place = opened.chunks, video_len = 0, audio_len = 0, i;
+
+    list(song.stored.bytes, total, USM_READ_WITH_AUDIO, SONG_CHUNKS);
+    for (i = 0; i < SONG_CHUNKS; i++) {
+        const uint8_t *window = song.stored.bytes + place;
+        struct usm_step_reply step = usm_step(window, 45, place, total, USM_READ_WITH_AUDIO, audio);
+        uint8_t *stream = step.kind == USM_CHUNK_VIDEO ? lent.video + video_len : lent.audio + audio_len;
+
+        CHECK(usm_step(window, 44, place, total, USM_READ_WITH_AUDIO, audio).found == USM_STEP_MORE);
+        CHECK(step.number == USM_ACCEPTED && step.found == USM_STEP_CHUNK);
+        CHECK(is_chunk(i, place, step.kind, step.data_type, step.length));
+        CHECK(step.payload == place + lent.list[i].offset && step.channel == lent.list[i].channel);
+        memcpy(stream, song.stored.bytes + step.payload, step.length);
+        usm_clear(KEY, step.mask, stream, step.length);
+        *(step.kind == USM_CHUNK_VIDEO ? &video_len : &audio_len) += step.length;
+        place = step.next;
+    }
+    CHECK(place == total && usm_step(NULL, 0, place, total, USM_READ_WITH_AUDIO, audio).found == USM_STEP_OVER);
+    CHECK(video_len == song.video_len && memcmp(lent.video, song.video, video_len) == 0);
+    CHECK(audio_len == song.audio_len && memcmp(lent.audio, song.audio, audio_len) == 0);
+}
+
+/* The bits of a key that each film shows. The song shows all of those that count: it has a masked picture. */
+static void try_key_bits(void)
+{
+    struct usm_key_bits_reply reply = usm_key_bits(song.stored.bytes, song.stored.len, USM_READ_WITH_AUDIO);
+
+    CHECK(reply.number == USM_ACCEPTED && reply.bits == 0x00FFFF0FFFFFFFFF);
+    reply = usm_key_bits(f, F_BYTES, USM_READ_WITH_AUDIO);
+    CHECK(reply.number == USM_ACCEPTED && reply.bits == 0);
+    reply = usm_key_bits(f, 428, USM_READ_WITH_AUDIO);
+    CHECK(reply.number == USM_RAN_OUT && reply.refused_at == 384 && reply.bits == 0);
+    reply = usm_key_bits(NULL, 0, USM_READ_WITH_AUDIO);
+    CHECK(reply.number == USM_RAN_OUT && reply.refused_at == 0 && reply.bits == 0);
+}
+
 int main(void)
 {
     make_f(f);
@@ -356,6 +442,9 @@ int main(void)
     try_lists_on_the_song();
     try_channels();
     try_payloads();
+    try_beginnings();
+    try_steps();
+    try_key_bits();
     printf("checks passed\n");
     return 0;
 }
