@@ -51,4 +51,16 @@ static inline int same_list(struct usm_list_reply a, struct usm_list_reply b)
            a.unknown_type == b.unknown_type;
 }
 
+static inline int same_open(struct usm_open_reply a, struct usm_open_reply b)
+{
+    return same_film(a.film, b.film) && a.chunks == b.chunks && a.more == b.more;
+}
+
+static inline int same_step(struct usm_step_reply a, struct usm_step_reply b)
+{
+    return a.refused_at == b.refused_at && a.next == b.next && a.payload == b.payload && a.length == b.length &&
+           a.number == b.number && a.unknown_type == b.unknown_type && a.found == b.found && a.kind == b.kind &&
+           a.data_type == b.data_type && a.channel == b.channel && a.mask == b.mask;
+}
+
 #endif

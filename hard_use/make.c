@@ -404,6 +404,77 @@ void make_any_film(struct made *made, struct chance *chance)
         damage(made, chance);
 }
 
+void make_clips(struct made *made, struct chance *chance)
+{
+    static struct song song;
+    static uint8_t payload[0x400];
+    size_t left = 1 + below(chance, 3);
+    struct usm_chunk chunks[SONG_CHUNKS];
+
+    make_song(&song, 0);
+    usm_list(song.stored.bytes, song.stored.len, USM_READ_WITH_AUDIO, chunks, SONG_CHUNKS);
+    song.stored.len = chunks[0].start;
+    for (; left > 0; left--) {
+        int video = once_in(chance, 4);
+        size_t len = (video ? 0x220 : 0x130) + below(chance, 0x40);
+
+        fill_by_chance(chance, payload, len);
+        add_chunk(&song.stored, video ? "@SFV" : "@SFA", once_in(chance, 6) ? 1 : 0, payload, len);
+    }
+    made->len = made->count = 0;
+    add_bytes(made, song.stored.bytes, song.stored.len);
+}
+
+/* A number that means yes or no to C. */
+static uint8_t choice_by_chance(struct chance *chance)
+{
+    return once_in(chance, 3) ? 0 : once_in(chance, 4) ? (uint8_t)any(chance) : 1;
+}
+
+/* A mode: mostly one of the two that have a name. */
+static uint8_t mode_by_chance(struct chance *chance)
+{
+    return once_in(chance, 8) ? (uint8_t)any(chance) : (uint8_t)below(chance, 2);
+}
+
+struct usm_reading reading_by_chance(struct chance *chance)
+{
+    struct usm_reading reading;
+
+    reading.audio = once_in(chance, 3) ? USM_AUDIO_CHANNEL : choice_by_chance(chance);
+    reading.channel = (uint8_t)below(chance, CHANNELS);
+    reading.payloads = mode_by_chance(chance);
+    reading.tables = mode_by_chance(chance);
+    return reading;
+}
+
+struct usm_key key_by_chance(struct chance *chance)
+{
+    struct usm_key key;
+
+    memset(&key, 0, sizeof key);
+    key.number = once_in(chance, 8) ? 0 : once_in(chance, 8) ? UINT64_MAX : any(chance);
+    key.given = choice_by_chance(chance);
+    return key;
+}
+
+uint64_t key_near(struct chance *chance, uint64_t key)
+{
+    switch (below(chance, 6)) {
+    case 0:
+        return key;
+    case 1:
+        return key ^ (any(chance) & IDLE_BITS);
+    case 2:
+    case 3:
+        return key ^ (uint64_t)1 << below(chance, 64);
+    case 4:
+        return key ^ (uint64_t)1 << below(chance, 64) ^ (uint64_t)1 << below(chance, 64);
+    default:
+        return any(chance);
+    }
+}
+
 size_t make_any_table(struct made *made, struct chance *chance)
 {
     size_t place = once_in(chance, 2) ? 0 : below(chance, 40), damages = once_in(chance, 3) ? 0 : below(chance, 4);

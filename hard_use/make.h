@@ -1,10 +1,11 @@
 /*
- * Films and tables made by chance: whole ones of many shapes, damaged ones, and bytes without sense.
+ * Films, tables and keys made by chance: whole films of many shapes, damaged ones, and bytes without sense.
  */
 #ifndef MAKE_H
 #define MAKE_H
 
 #include "chance.h"
+#include "usm.h"
 
 #include <stddef.h>
 #include <stdint.h>
@@ -34,6 +35,22 @@ void damage(struct made *made, struct chance *chance);
 
 /* Makes a film: whole, damaged or no film at all. */
 void make_any_film(struct made *made, struct chance *chance);
+
+/* Makes a film of a few payloads around the lengths at which they show more of a key. */
+void make_clips(struct made *made, struct chance *chance);
+
+/* How a film is read: any audio, any channel, both modes of tables and payloads, and now and then a number without a
+ * name. */
+struct usm_reading reading_by_chance(struct chance *chance);
+
+/* A key, or none. */
+struct usm_key key_by_chance(struct chance *chance);
+
+/* Bits of a key that change nothing. */
+#define IDLE_BITS 0xFF0000F000000000
+
+/* A key that often has one copy with another one: the same, or one that differs in few bits. */
+uint64_t key_near(struct chance *chance, uint64_t key);
 
 /* Makes a table, with bytes in front of it as its place says. */
 size_t make_any_table(struct made *made, struct chance *chance);

@@ -24,9 +24,6 @@
 #define MOST 16
 #define TRIED 18
 
-/* Bits of a key that change nothing. */
-#define IDLE_BITS 0xFF0000F000000000
-
 /* The bytes of F up to the last of the 45 that its end chunk needs. */
 #define F_DECIDED (F_END + 45)
 
@@ -59,46 +56,6 @@ static struct usm_share *lines_of(const struct output *output)
 }
 
 /* ---- what is tried */
-
-/* The song's header, and a few payloads around the lengths at which they show more of a key. */
-static void make_clips(struct chance *chance)
-{
-    static struct song song;
-    static uint8_t payload[0x400];
-    size_t left = 1 + below(chance, 3);
-    struct usm_chunk chunks[SONG_CHUNKS];
-
-    make_song(&song, 0);
-    usm_list(song.stored.bytes, song.stored.len, USM_READ_WITH_AUDIO, chunks, SONG_CHUNKS);
-    song.stored.len = chunks[0].start;
-    for (; left > 0; left--) {
-        int video = once_in(chance, 4);
-        size_t len = (video ? 0x220 : 0x130) + below(chance, 0x40);
-
-        fill_by_chance(chance, payload, len);
-        add_chunk(&song.stored, video ? "@SFV" : "@SFA", once_in(chance, 6) ? 1 : 0, payload, len);
-    }
-    memcpy(trial.made.bytes, song.stored.bytes, song.stored.len);
-    trial.made.len = song.stored.len;
-}
-
-/* A key that often has one copy with another one: the same, or one that differs in few bits. */
-static uint64_t key_near(struct chance *chance, uint64_t key)
-{
-    switch (below(chance, 6)) {
-    case 0:
-        return key;
-    case 1:
-        return key ^ (any(chance) & IDLE_BITS);
-    case 2:
-    case 3:
-        return key ^ (uint64_t)1 << below(chance, 64);
-    case 4:
-        return key ^ (uint64_t)1 << below(chance, 64) ^ (uint64_t)1 << below(chance, 64);
-    default:
-        return any(chance);
-    }
-}
 
 static void make_tenants(struct chance *chance)
 {
@@ -192,7 +149,7 @@ static void try_case(enum edge edge)
     if (once_in(&chance, 2))
         make_any_film(&trial.made, &chance);
     else
-        make_clips(&chance);
+        make_clips(&trial.made, &chance);
     make_tenants(&chance);
     film = lend_bytes(&film_memory, edge, trial.made.bytes, trial.made.len);
     given = lend_tenants(edge, tenants, tenant_count);

@@ -135,29 +135,6 @@ static size_t room_by_chance(size_t needed)
     }
 }
 
-/* A number that means yes or no to C. */
-static uint8_t choice_by_chance(void)
-{
-    return once_in(&chance, 3) ? 0 : once_in(&chance, 4) ? (uint8_t)any(&chance) : 1;
-}
-
-/* Which audio is taken: often that of one channel. */
-static uint8_t audio_by_chance(void)
-{
-    return once_in(&chance, 3) ? USM_AUDIO_CHANNEL : choice_by_chance();
-}
-
-/* A mode: mostly one of the two that have a name. */
-static uint8_t mode_by_chance(void)
-{
-    return once_in(&chance, 8) ? (uint8_t)any(&chance) : (uint8_t)below(&chance, 2);
-}
-
-static uint64_t key_by_chance(void)
-{
-    return once_in(&chance, 8) ? 0 : once_in(&chance, 8) ? UINT64_MAX : any(&chance);
-}
-
 /* A film, how it is read, and what the first calls said of it. */
 struct reading {
     const uint8_t *film;
@@ -374,12 +351,8 @@ static void try_film(void)
     reading.film = lend_bytes(&films, case_edge, made.bytes, made.len);
     reading.fallback_len = once_in(&chance, 2) ? below(&chance, 2) : below(&chance, FALLBACK_BYTES + 1);
     reading.fallback = lend_bytes(&fallbacks, case_edge, fallback, reading.fallback_len);
-    reading.how.audio = audio_by_chance();
-    reading.how.channel = (uint8_t)below(&chance, CHANNELS);
-    reading.how.payloads = mode_by_chance();
-    reading.how.tables = mode_by_chance();
-    reading.key.number = key_by_chance();
-    reading.key.given = choice_by_chance();
+    reading.how = reading_by_chance(&chance);
+    reading.key = key_by_chance(&chance);
 
     ask_for_sizes(&reading);
     ask_for_count(&reading);
@@ -435,7 +408,7 @@ static void try_tables(void)
 {
     size_t place = make_any_table(&made, &chance);
     const uint8_t *bytes = lend_bytes(&films, case_edge, made.bytes, made.len);
-    struct usm_reading how = {choice_by_chance(), 0, 0, mode_by_chance()};
+    struct usm_reading how = reading_by_chance(&chance);
     struct usm_table_reply table = try_table(bytes, place, how);
     int i;
 
@@ -449,7 +422,7 @@ typedef void act(uint64_t key, uint8_t *payload, size_t len);
 /* A mask and its reverse on a payload: what is below a place stays, and in the end all is as before. */
 static void try_mask(enum call call, act *first, enum call back, act *second, size_t stays, size_t shortest)
 {
-    uint64_t key = key_by_chance();
+    uint64_t key = key_by_chance(&chance).number;
     size_t len = once_in(&chance, 3) ? below(&chance, 65) : once_in(&chance, 2) ? below(&chance, 2000) : 0x130 + below(&chance, 0x140);
     struct output payload = lend_output(&videos, case_edge, len, &chance);
     size_t before = (size_t)(payload.at - payload.whole), kept = len < shortest ? len : stays < len ? stays : len;
@@ -469,7 +442,7 @@ static void try_key_table(void)
     size_t given;
 
     calling(KEY_TABLE);
-    given = usm_key_table(key_by_chance(), start_of(&table), table.len);
+    given = usm_key_table(key_by_chance(&chance).number, start_of(&table), table.len);
     answered((uint8_t)given);
     EXPECT(given == (table.len < USM_KEY_TABLE_BYTES ? 0 : USM_KEY_TABLE_BYTES));
     EXPECT(stays_from(&table, given));

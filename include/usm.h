@@ -54,9 +54,8 @@ size_t usm_key_table(uint64_t key, uint8_t *table, size_t len);
  * Unmasks the video payload of `len` bytes at `payload`. Below 0x240 bytes it is unchanged. From
  * there on the bytes below 0x40 are unchanged, and all others are unmasked. It needs 233 bytes of stack
  * below its call, return address and callees included; 136 once the key table is made. This and the
- * figures of the other four are measured on the library (kit rattle-kit-5b) by hard_use/stack.c: the
- * deepest that calls with several keys and lengths went on a painted stack, tried again on just so many
- * bytes.
+ * other figures of stack are measured on the library (kit rattle-kit-5b) by hard_use/stack.c: the
+ * deepest that many calls went on a painted stack, tried again on just so many bytes.
  */
 void usm_unmask_video(uint64_t key, uint8_t *payload, size_t len);
 
@@ -418,7 +417,8 @@ struct usm_open_reply {
 /*
  * What a film of `total` bytes is, by its first `len` bytes: the header, or the film's refusal, or that
  * more bytes are needed. A beginning never says what the whole film does not, and the whole film never
- * needs more (proved). Lend some KiB first, then twice as many.
+ * needs more (proved). Lend some KiB first, then twice as many. It needs 1,392 bytes of stack below its
+ * call.
  */
 struct usm_open_reply usm_open(const uint8_t *beginning, size_t len, size_t total,
                                struct usm_reading reading);
@@ -464,14 +464,15 @@ struct usm_step_reply {
 /*
  * What stands at byte `place` of a film of `total` bytes, by the `len` bytes at `window`, which stand
  * there: 45 of them, or all that are left, always suffice (proved). `audio` is what the header says.
- * Of the numbers it gives USM_TOO_LONG and those of a chunk: 1, 9 and 17.
+ * Of the numbers it gives USM_TOO_LONG and those of a chunk: 1, 9 and 17. It needs 136 bytes of stack
+ * below its call.
  */
 struct usm_step_reply usm_step(const uint8_t *window, size_t len, size_t place, size_t total,
                                struct usm_reading reading, struct usm_film_audio audio);
 
 /*
  * Makes the whole payload of a step clear, in place. Where `mask` is neither USM_MASK_VIDEO nor
- * USM_MASK_AUDIO nothing changes.
+ * USM_MASK_AUDIO nothing changes. It needs 296 bytes of stack below its call.
  */
 void usm_clear(uint64_t key, uint8_t mask, uint8_t *payload, size_t len);
 
@@ -737,7 +738,7 @@ struct usm_key_bits_reply {
  * wrong, and nothing changes (proved). A video payload of data type 0 and 0x240 bytes or more shows all that count:
  * 0x00FFFF0FFFFFFFFF. An ADX payload of data type 0 shows, from 0x141 bytes on, bits 0 to 7; from 0x143 16 to 23 too; from
  * 0x145 32 to 35; from 0x147 48 to 55; from 0x149 8 to 15; from 0x14F 24 to 31; from 0x159 40 to 47, which are all. No
- * stream is unpacked, and no key is asked for.
+ * stream is unpacked, and no key is asked for. It needs 1,600 bytes of stack below its call.
  */
 struct usm_key_bits_reply usm_key_bits(const uint8_t *container, size_t len, struct usm_reading reading);
 
