@@ -1,6 +1,6 @@
 //! Compares the exports of libplayer.a and libusm.a with the original Rust. `compare/run` builds and calls it:
 //!   compare check [PART..]      every answer against the original's; a part is masks, tables, containers,
-//!                               writes or moves
+//!                               pieces, writes or moves
 //!   compare time [PART..]       both under one clock
 //!   compare record FOLDER       the original's answers for the replay programs, in this folder of crates
 //!   compare films               films of the original's builder, for record_moves.py
@@ -53,6 +53,7 @@ mod tables {
 
 mod containers {
     pub mod answer;
+    pub mod batch;
     pub mod call;
     pub mod case;
     pub mod check;
@@ -81,6 +82,17 @@ mod containers {
     pub mod timing;
     pub mod walk_timing;
     pub mod watch;
+    pub mod work;
+}
+
+mod pieces {
+    pub mod bits;
+    pub mod check;
+    pub mod compare;
+    pub mod exports;
+    pub mod reader;
+    pub mod tally;
+    pub mod timing;
 }
 
 mod writes {
@@ -122,7 +134,7 @@ struct Part {
     record: Option<fn(&Path) -> io::Result<()>>,
 }
 
-static PARTS: [Part; 5] = [
+static PARTS: [Part; 6] = [
     Part {
         name: "masks",
         check: || report(masks::check::run(), |agreed| println!("{agreed} comparisons agreed")),
@@ -150,6 +162,12 @@ static PARTS: [Part; 5] = [
             goals
         },
         record: Some(containers::record::write),
+    },
+    Part {
+        name: "pieces",
+        check: || report(pieces::check::run(), |tally| tally.print()),
+        time: pieces::timing::run,
+        record: None,
     },
     Part {
         name: "writes",

@@ -115,7 +115,8 @@ fn accepted_extraction<'a>(call: &Call, film: &'a Film, reading: &Reading, sums:
     Extraction { reply: success(film).reply(), name: Some(name), rooms, streams: [video, audio] }
 }
 
-fn success(film: &Film) -> Success {
+/// What is known of a film of the original's.
+pub fn success(film: &Film) -> Success {
     Success {
         tracks: film.header.tracks,
         is_ivf: film.video_kind == "ivf",

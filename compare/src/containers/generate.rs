@@ -6,6 +6,7 @@ use super::film::{Chunk, Film, Tables};
 use super::header_tables::table;
 use super::mistakes;
 use super::rules::{END, SFA, SFV};
+use super::samples::with_codec;
 use crate::random::Random;
 
 /// A container of any shape.
@@ -28,6 +29,19 @@ pub fn small(random: &mut Random) -> Case {
     let count = random.within(1..4);
     let film = film(count, random);
     finish(film, random)
+}
+
+/// A film of a few payloads around the lengths at which one shows more of a key, most of them masked.
+pub fn clips(random: &mut Random) -> Case {
+    let tables = with_codec(random.pick(&[2, 2, 2, 4]));
+    let chunks: Vec<Chunk> = (0..random.within(1..4)).map(|_| clip(random)).collect();
+    finish(Film::with_chunks(&tables, &chunks), random)
+}
+
+fn clip(random: &mut Random) -> Chunk {
+    let (letters, least) = random.pick(&[(SFA, 0x130), (SFA, 0x130), (SFA, 0x130), (SFV, 0x220)]);
+    let length = random.within(least..least + 0x40) as usize;
+    Chunk::new(letters, &random.bytes(length)).of_type(random.pick(&[0, 0, 0, 0, 0, 1]))
 }
 
 fn finish(film: Film, random: &mut Random) -> Case {

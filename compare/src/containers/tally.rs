@@ -3,6 +3,7 @@
 use std::ops::AddAssign;
 
 use super::domain::Rule;
+use super::work::Counts;
 
 /// How one container, read with audio chosen or not, came out.
 #[derive(Clone, Copy)]
@@ -49,7 +50,7 @@ impl AddAssign for Sums {
 /// All containers so far.
 #[derive(Default)]
 pub struct Tally {
-    pub containers: u64,
+    containers: u64,
     accepted: u64,
     refused: [u64; 9],
     in_child: u64,
@@ -58,8 +59,10 @@ pub struct Tally {
     sums: Sums,
 }
 
-impl Tally {
-    pub fn add(&mut self, seen: &Seen) {
+impl Counts for Tally {
+    type Seen = Seen;
+
+    fn add(&mut self, seen: &Seen) {
         self.containers += 1;
         for outcome in &seen.outcomes {
             match outcome {
@@ -73,8 +76,7 @@ impl Tally {
         self.sums += seen.sums;
     }
 
-    /// Adds what another thread has seen.
-    pub fn join(&mut self, other: &Tally) {
+    fn join(&mut self, other: &Tally) {
         self.containers += other.containers;
         self.accepted += other.accepted;
         self.in_child += other.in_child;
@@ -86,6 +88,12 @@ impl Tally {
         self.sums += other.sums;
     }
 
+    fn containers(&self) -> u64 {
+        self.containers
+    }
+}
+
+impl Tally {
     fn inside(&self) -> u64 {
         self.accepted + self.refused.iter().sum::<u64>() + self.in_child
     }
