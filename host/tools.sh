@@ -130,15 +130,15 @@ is_built() {
 
 # A copy of host/beside under target/, with the original put into its oracle crate and the comparison's files.
 make_beside() {
-    local original=$1 sum file copy=$made/beside access=$root/compare/oracle/access
+    local original=$1 sum file copy=$made/beside access=$root/checks/compare/oracle/access
     while read -r sum file; do
         [ -f "$original/$file" ] || stop "$original/$file is not there"
         [ "$(sha256sum <"$original/$file")" = "$sum  -" ] || stop "$original/$file is another version: its SHA-256 is not $sum"
-    done <"$root/compare/original.sha256"
+    done <"$root/checks/compare/original.sha256"
     rm -rf "$copy"
     mkdir -p "$copy"
-    cp -R "$root/host/beside/." "$root/compare/oracle" "$copy"
-    cp -R "$root/compare/src" "$copy/comparison"
+    cp -R "$root/host/beside/." "$root/checks/compare/oracle" "$copy"
+    cp -R "$root/checks/compare/src" "$copy/comparison"
     mkdir -p "$copy/oracle/src/usm"
     cp "$original/src/reader.rs" "$copy/oracle/src/reader.rs"
     cat "$original/src/usm/extractor.rs" "$access/extractor.rs" >"$copy/oracle/src/usm/extractor.rs"

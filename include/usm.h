@@ -54,7 +54,7 @@ size_t usm_key_table(uint64_t key, uint8_t *table, size_t len);
  * Unmasks the video payload of `len` bytes at `payload`. Below 0x240 bytes it is unchanged. From
  * there on the bytes below 0x40 are unchanged, and all others are unmasked. It needs 233 bytes of stack
  * below its call, return address and callees included; 136 once the key table is made. This and the
- * other figures of stack are measured on the library (kit rattle-kit-5b) by hard_use/stack.c: the
+ * other figures of stack are measured on the library (kit rattle-kit-5b) by checks/hard_use/stack.c: the
  * deepest that many calls went on a painted stack, tried again on just so many bytes.
  */
 void usm_unmask_video(uint64_t key, uint8_t *payload, size_t len);
