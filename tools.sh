@@ -1,0 +1,158 @@
+# shellcheck shell=bash
+# What the project's scripts share: words, tools, packages, the proved libraries, and the original.
+# To be sourced. `root` is the repository, `me` the script's name.
+
+# The static libraries, and the Debian packages that a script needs.
+libraries=("$root/target/staticlib/libplayer.a" "$root/target/staticlib/libusm.a")
+packages=()
+
+oldest_rust=1.88
+
+# What is being done stands on standard error.
+say() {
+    echo "$me: $*" >&2
+}
+
+stop() {
+    say "$*"
+    exit 2
+}
+
+check_tools() {
+    local tool
+    for tool in "$@"; do
+        command -v "$tool" >/dev/null || stop "$tool is not on the PATH"
+    done
+}
+
+check_rust() {
+    local found
+    check_tools cargo rustc
+    found=$(rustc --version | cut -d' ' -f2)
+    [ "$(printf '%s\n' "$oldest_rust" "$found" | sort -V | head -n 1)" = "$oldest_rust" ] ||
+        stop "rustc is $found, and $oldest_rust or later is needed"
+}
+
+check_machine() {
+    [ "$(uname -m)" = x86_64 ] || stop "the static libraries link into x86-64 programs only"
+}
+
+is_debian() {
+    command -v dpkg-query >/dev/null
+}
+
+is_installed() {
+    [ "$(dpkg-query -W -f='${db:Status-Status}' "$1" 2>/dev/null)" = installed ]
+}
+
+# Installs what is missing of the packages, where --install was given; else says how.
+check_packages() {
+    local package missing=()
+    is_debian || return 0
+    for package in "${packages[@]}"; do
+        is_installed "$package" || missing+=("$package")
+    done
+    [ ${#missing[@]} -gt 0 ] || return 0
+    [ -n "${install:-}" ] || stop "missing: ${missing[*]}
+to install: apt-get update && apt-get install --no-install-recommends ${missing[*]}
+or give --install to $me, as root"
+    say "installing ${missing[*]}"
+    apt-get update >&2
+    apt-get install --yes --no-install-recommends "${missing[@]}" >&2
+}
+
+# How cargo finds the crates: on Debian in its packages, offline. Elsewhere it fetches the same versions.
+cargo_sources() {
+    local sources
+    is_debian || return 0
+    sources=$(dpkg-query -L "${packages[0]}" | sed -n 's,/[^/]*/Cargo\.toml$,,p')
+    printf '%s\n' --offline --config "source.crates-io.replace-with='packages'" --config "source.packages.directory='$sources'"
+}
+
+# All crates of some libraries: they themselves, those that they name in crates.txt, those that these name, and so on.
+crates_of() {
+    awk -v wanted="$*" '
+        /^[a-z0-9_]+:/ { name = $1; sub(":", "", name); $1 = ""; needs[name] = $0 }
+        END {
+            while (split(wanted, names, " ") > 0) {
+                wanted = ""
+                for (i in names)
+                    if (names[i] in needs && !(names[i] in seen)) {
+                        seen[names[i]] = 1
+                        wanted = wanted " " needs[names[i]]
+                    }
+            }
+            for (name in seen)
+                print name
+        }' "$root/crates.txt" | sort
+}
+
+# Whether a library is there, and nothing that it is proved from has changed since its proving began: the archive has
+# the time of that moment. What else a crate's folder has, such as its README, does not count.
+is_proved() {
+    local archive=$root/target/staticlib/lib$1.a crate folder from=("$root/crates.txt")
+    [ -e "$archive" ] || return 1
+    for crate in $(crates_of "$1"); do
+        for folder in "$root/crates/$crate"/{src,specs,proofs}; do
+            [ ! -d "$folder" ] || from+=("$folder")
+        done
+    done
+    [ -z "$(find "${from[@]}" -newer "$archive" -print -quit)" ]
+}
+
+# Proves both libraries, one after the other, and says how far it is. What is proved already is not proved again.
+prove_libraries() {
+    local name wanted=() line made=$root/target/proving done=0 all
+    for name in usm player; do
+        is_proved "$name" || wanted+=("$name")
+    done
+    [ ${#wanted[@]} -gt 0 ] || return 0
+    check_tools rt
+    mkdir -p "$made"
+    all=$(crates_of "${wanted[@]}" | wc -l)
+    say "proving ${wanted[*]/#/lib} and the crates below, $all in all: some 8 minutes where none is proved, once"
+    for name in "${wanted[@]}"; do
+        line=""
+        touch "$made/$name-begun"
+        while IFS= read -r line; do
+            echo "$line"
+            case $line in
+                'rt: '*' proved ('*) done=$((done + 1)) ;;&
+                *' proved ('[0-9]*) say "proved $done of $all: ${line#rt: }" ;;
+            esac
+        done < <(cd "$root" && rt staticlib "$name" 2>&1 || echo "rt: failed") >"$made/$name.log"
+        [ "$line" != "rt: failed" ] || {
+            tail -n 20 "$made/$name.log" >&2
+            stop "rt staticlib $name failed; $made/$name.log has all it said"
+        }
+        # What was edited meanwhile is newer, and is proved again.
+        touch --reference="$made/$name-begun" "$root/target/staticlib/lib$name.a"
+    done
+}
+
+# libusm.a as a shared library, for Python.
+make_shared_library() {
+    mkdir -p "$(dirname "$1")"
+    "${CC:-cc}" -shared -o "$1" -Wl,--whole-archive "$root/target/staticlib/libusm.a" -Wl,--no-whole-archive
+}
+
+# The three files of the original must be those of the commit that was carried over.
+check_original() {
+    local original=$1 sum file
+    while read -r sum file; do
+        [ -f "$original/$file" ] || stop "$original/$file is not there"
+        [ "$(sha256sum <"$original/$file")" = "$sum  -" ] || stop "$original/$file is another version: its SHA-256 is not $sum"
+    done <"$root/checks/compare/original.sha256"
+}
+
+# The original as a crate, in a folder: its three files, and after the text of two of them a module that reaches what is
+# private there.
+make_oracle() {
+    local original=$1 oracle=$2 access=$root/checks/compare/oracle/access
+    mkdir -p "$oracle"
+    cp -R "$root/checks/compare/oracle/." "$oracle"
+    mkdir -p "$oracle/src/usm"
+    cp "$original/src/reader.rs" "$oracle/src/reader.rs"
+    cat "$original/src/usm/extractor.rs" "$access/extractor.rs" >"$oracle/src/usm/extractor.rs"
+    cat "$original/src/usm/builder.rs" "$access/builder.rs" >"$oracle/src/usm/builder.rs"
+}
