@@ -156,3 +156,49 @@ make_oracle() {
     cat "$original/src/usm/extractor.rs" "$access/extractor.rs" >"$oracle/src/usm/extractor.rs"
     cat "$original/src/usm/builder.rs" "$access/builder.rs" >"$oracle/src/usm/builder.rs"
 }
+
+# Steps that are tried one after the other: how many, which failed, and what was left out.
+tried=0
+failed=()
+left_out=()
+
+# Runs a step in a shell of its own, so that any failure in it counts, and keeps what it writes in the folder `made`.
+# Where `shown` is set, it is shown too. A line SKIPPED of it is something left out.
+try() {
+    local name=$1 log=$made/test-${1// /-}.log status=0 line
+    shift
+    tried=$((tried + 1))
+    say "$name"
+    set +e
+    (set -euo pipefail; "$@") 2>&1 | keep "$log"
+    status=${PIPESTATUS[0]}
+    set -e
+    while IFS= read -r line; do
+        left_out+=("$line")
+    done < <(sed -n 's/^SKIPPED: //p' "$log")
+    [ "$status" -ne 0 ] || return 0
+    [ -n "${shown:-}" ] || tail -n 60 "$log" >&2
+    say "FAILED: $name; $log has all it said"
+    failed+=("$name")
+}
+
+keep() {
+    if [ -n "${shown:-}" ]; then
+        tee "$1" >&2
+    else
+        cat >"$1"
+    fi
+}
+
+# Says what was left out, and ends with the verdict as the last line.
+give_verdict() {
+    local line
+    for line in "${left_out[@]}"; do
+        say "left out: $line"
+    done
+    if [ ${#failed[@]} -gt 0 ]; then
+        echo "$me: ${#failed[@]} of $tried failed: ${failed[*]}"
+        exit 1
+    fi
+    echo "$me: $tried passed, 0 failed, ${#left_out[@]} left out"
+}

@@ -1,5 +1,8 @@
 #!/usr/bin/env python3
-"""Writes crates/gate_csv's list of tables and the answers on it, from the rules as tables.py has them: stdin and stdout."""
+"""Tables, and the CSV that rules T and V make of them, as csv_check/tables.py has these rules.
+
+    checks/records/csv_tables.py FOLDER   write stdin and stdout of crates/gate_csv
+"""
 import os
 import random
 import struct
@@ -31,8 +34,7 @@ def cases():
         yield table_by(chance)
 
 
-def main():
-    replay = os.path.join(HERE, "..", "..", "crates", "replay_csv")
+def main(folder):
     list_, answers, size = [], [], 0
     for table in cases():
         for mark, zero_columns in (("t", False), ("z", True)):
@@ -51,9 +53,11 @@ def main():
         if size > LIST:
             break
     for name, lines in (("stdin", list_), ("stdout", answers)):
-        with open(os.path.join(replay, name), "w") as file:
+        with open(os.path.join(folder, name), "w") as file:
             file.writelines(lines)
     print("%d cases, %d of them refused" % (len(list_), sum(line.startswith("refused") for line in answers)))
 
 
-main()
+if len(sys.argv) != 2:
+    sys.exit("usage: checks/records/csv_tables.py FOLDER")
+main(sys.argv[1])

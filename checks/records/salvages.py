@@ -1,14 +1,13 @@
 #!/usr/bin/env python3
 """Uploads that stopped early (request 12), in the plainest way: cut at every chunk start, and read anew.
 
-    checks/records/salvages.py                   write crates/gate_salvages/stdin and stdout
-    checks/records/salvages.py LIBRARY [COUNT]   ask usm_salvage of a shared library on COUNT random films (20,000)
+    checks/records/salvages.py FOLDER                  write stdin and stdout of crates/gate_salvages
+    checks/records/salvages.py --ask LIBRARY [COUNT]   ask usm_salvage of a shared library on COUNT random films (20,000)
 
 Nothing of the library is used for the answers: rules T, H and C stand here once more, by the letters of
 docs/RULES.md, and the longest beginning is looked for by trying each.
 """
 import ctypes
-import os
 import random
 import sys
 
@@ -274,10 +273,9 @@ def line(film):
         return "refused %d at %d" % (number_, place) + (" type %d" % kind if number_ == 8 else "")
 
 
-def write_cases():
-    folder = os.path.join(os.path.dirname(os.path.abspath(__file__)), "..", "..", "crates", "replay_salvages")
+def write_cases(folder):
     films = [film for _, film in chosen()]
-    with open(os.path.join(folder, "stdin"), "w") as asked, open(os.path.join(folder, "stdout"), "w") as told:
+    with open(folder + "/stdin", "w") as asked, open(folder + "/stdout", "w") as told:
         for film in films:
             asked.write(film.hex() + "\n")
             for length in range(len(film) + 1):
@@ -312,7 +310,12 @@ def ask_library(path, count):
 
 
 if __name__ == "__main__":
-    if len(sys.argv) == 1:
-        write_cases()
-    else:
-        ask_library(sys.argv[1], int(sys.argv[2]) if len(sys.argv) > 2 else 20000)
+    match sys.argv[1:]:
+        case ["--ask", library]:
+            ask_library(library, 20000)
+        case ["--ask", library, count]:
+            ask_library(library, int(count))
+        case [folder]:
+            write_cases(folder)
+        case _:
+            sys.exit("usage: checks/records/salvages.py FOLDER, or --ask LIBRARY [COUNT]")

@@ -2,8 +2,8 @@
 """Statements made by brute force: both streams of a film are unpacked for every tenant, and tenants whose streams
 agree byte for byte share a copy. Nothing here is shared with the crates. Writes what the gate replays:
 
-    checks/records/statements.py            crates/gate_statements/stdin and stdout
-    checks/records/statements.py --answer   crates/who_pays/stdin, the film of docs/ANSWER.md
+    checks/records/statements.py FOLDER            stdin and stdout of crates/gate_statements
+    checks/records/statements.py --answer FOLDER   stdin of crates/who_pays, the film of docs/ANSWER.md
 """
 import random
 import sys
@@ -204,7 +204,7 @@ def record(letter, number, data=b""):
     return "%s %08x %s\n" % (letter, number, data.ljust(16, b"\0").hex())
 
 
-def write_replay():
+def write_replay(folder):
     buffer = bytearray(ROOM)
     asked, answers = "", ""
     for start, audio, codec, puts, end, tenants in sorted(films(), key=lambda film: (film[1], str(film[2]))):
@@ -218,20 +218,26 @@ def write_replay():
         asked += record("s", 0)
         for order in tenants, tenants[::-1]:
             answers += "".join("%d " % n for n in statement(bytes(buffer[:end]), start, audio, codec, order)) + "\n"
-    with open("crates/gate_statements/stdin", "w") as f:
+    with open(folder + "/stdin", "w") as f:
         f.write(asked)
-    with open("crates/gate_statements/stdout", "w") as f:
+    with open(folder + "/stdout", "w") as f:
         f.write(answers)
 
 
-def write_answer():
+def write_answer(folder):
     chance = random.Random(1)
     film = bytearray(header(True, 2))
     for letters, length in ((b"@SFV", 0x300), (b"@SFA", 0x150), (b"@SFV", 0x100)):
         size = 0x18 + length
         film += (letters + size.to_bytes(4, "big") + b"\0\x18\0\0").ljust(32, b"\0") + bytes(chance.randrange(256) for _ in range(length))
-    with open("crates/who_pays/stdin", "wb") as f:
+    with open(folder + "/stdin", "wb") as f:
         f.write(film)
 
 
-write_answer() if sys.argv[1:] == ["--answer"] else write_replay()
+match sys.argv[1:]:
+    case ["--answer", folder]:
+        write_answer(folder)
+    case [folder]:
+        write_replay(folder)
+    case _:
+        sys.exit("usage: checks/records/statements.py [--answer] FOLDER")

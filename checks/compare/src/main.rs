@@ -3,7 +3,7 @@
 //!                               pieces, writes or moves
 //!   compare time [PART..]       both under one clock
 //!   compare record FOLDER       the original's answers for the replay programs, in this folder of crates
-//!   compare films               films of the original's builder, for record_moves.py
+//!   compare films               films of the original's builder, for checks/records/moves.py
 //! It calls itself for what may take gigabytes: compare ask AUDIO.
 
 mod clock;
