@@ -45,7 +45,7 @@ is_installed() {
     [ "$(dpkg-query -W -f='${db:Status-Status}' "$1" 2>/dev/null)" = installed ]
 }
 
-# Installs what is missing of the packages, where --install was given; else says how.
+# Installs what is missing of the packages, where --packages was given; else says how.
 check_packages() {
     local package missing=()
     is_debian || return 0
@@ -53,9 +53,9 @@ check_packages() {
         is_installed "$package" || missing+=("$package")
     done
     [ ${#missing[@]} -gt 0 ] || return 0
-    [ -n "${install:-}" ] || stop "missing: ${missing[*]}
+    [ -n "${wants_packages:-}" ] || stop "missing: ${missing[*]}
 to install: apt-get update && apt-get install --no-install-recommends ${missing[*]}
-or give --install to $me, as root"
+or give --packages to $me, as root"
     say "installing ${missing[*]}"
     apt-get update >&2
     apt-get install --yes --no-install-recommends "${missing[@]}" >&2
@@ -110,7 +110,7 @@ prove_libraries() {
     check_tools rt
     mkdir -p "$made"
     all=$(crates_of "${wanted[@]}" | wc -l)
-    say "proving ${wanted[*]/#/lib} and the crates below, $all in all: some 8 minutes where none is proved, once"
+    say "proving ${wanted[*]/#/lib} and the crates below, $all in all: some 10 minutes where none is proved, once"
     for name in "${wanted[@]}"; do
         line=""
         touch "$made/$name-begun"
