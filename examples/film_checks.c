@@ -412,6 +412,17 @@ static void try_steps(void)
     CHECK(audio_len == song.audio_len && memcmp(lent.audio, song.audio, audio_len) == 0);
 }
 
+/* The bits of a key that a payload shows, by its mask and its length. */
+static void try_payload_bits(void)
+{
+    CHECK(usm_payload_bits(USM_MASK_NONE, 0x1000) == 0);
+    CHECK(usm_payload_bits(USM_MASK_VIDEO, 0x23F) == 0);
+    CHECK(usm_payload_bits(USM_MASK_VIDEO, 0x240) == 0x00FFFF0FFFFFFFFF);
+    CHECK(usm_payload_bits(USM_MASK_AUDIO, 0x140) == 0);
+    CHECK(usm_payload_bits(USM_MASK_AUDIO, 0x141) == 0xFF);
+    CHECK(usm_payload_bits(USM_MASK_AUDIO, 0x159) == 0x00FFFF0FFFFFFFFF);
+}
+
 /* The bits of a key that each film shows. The song shows all of those that count: it has a masked picture. */
 static void try_key_bits(void)
 {
@@ -445,6 +456,7 @@ int main(void)
     try_beginnings();
     try_steps();
     try_key_bits();
+    try_payload_bits();
     printf("checks passed\n");
     return 0;
 }

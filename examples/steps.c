@@ -27,7 +27,6 @@
 #include <stdio.h>
 #include <stdlib.h>
 #include <string.h>
-#include <sys/mman.h>
 #include <sys/stat.h>
 #include <unistd.h>
 
@@ -53,6 +52,7 @@ struct film {
 /* What all steps come to. */
 struct walk {
     size_t chunks, longest, video_bytes, audio_bytes;
+    uint64_t bits; /* the bits of a key that the film shows */
 };
 
 static void give_up(int status, const char *format, ...)
@@ -148,11 +148,12 @@ static struct usm_step_reply step_at(const struct film *film, size_t place)
 /* Walks all steps, and writes nothing. A payload that is too long for the buffer ends the program. */
 static struct walk measure(const struct film *film)
 {
-    struct walk walk = {0, 0, 0, 0};
+    struct walk walk = {0, 0, 0, 0, 0};
     size_t place = film->opened.chunks;
 
     for (;;) {
         struct usm_step_reply step = step_at(film, place);
+        uint64_t bits = usm_payload_bits(step.mask, step.length);
 
         if (step.found == USM_STEP_OVER)
             return walk;
@@ -162,6 +163,8 @@ static struct walk measure(const struct film *film)
         walk.chunks++;
         if (walk.longest < step.length)
             walk.longest = step.length;
+        if (walk.bits < bits)
+            walk.bits = bits;
         if (step.kind == USM_CHUNK_VIDEO)
             walk.video_bytes += step.length;
         if (step.kind == USM_CHUNK_AUDIO)
@@ -210,22 +213,6 @@ static void finish(FILE *file, const char *stream, const char *path, size_t len)
     printf("%s  %zu bytes: %s\n", stream, len, path);
 }
 
-/* Prints the bits of a key that the film shows, as the digits of a key. The film is mapped for this, and not
- * read: usm_key_bits looks at its header and at the heads of its chunks alone. */
-static void print_bits(const struct film *film)
-{
-    void *mapped = mmap(NULL, film->total, PROT_READ, MAP_PRIVATE, film->file, 0);
-    struct usm_key_bits_reply reply;
-
-    if (mapped == MAP_FAILED)
-        give_up_on(film->path);
-    reply = usm_key_bits((const uint8_t *)mapped, film->total, USM_READ_WITH_AUDIO);
-    if (reply.number != USM_ACCEPTED)
-        end_refused(reply.number, reply.refused_at);
-    printf("bits   %016" PRIX64 "\n", reply.bits);
-    munmap(mapped, film->total);
-}
-
 int main(int argc, char **argv)
 {
     struct usm_key key = USM_NO_KEY;
@@ -256,7 +243,7 @@ int main(int argc, char **argv)
         finish(audio, "audio", argv[3], walk.audio_bytes);
     else
         printf("audio  none\n");
-    print_bits(&film);
+    printf("bits   %016" PRIX64 "\n", walk.bits);
     close(film.file);
     return 0;
 }

@@ -745,7 +745,7 @@ struct usm_key_bits_reply usm_key_bits(const uint8_t *container, size_t len, str
 /*
  * The bits of a key that one payload shows, by the mask and the length that its step gave. What one payload shows, one
  * that shows more shows too: the largest number of a film's payloads is the number that usm_key_bits replies (proved),
- * so a film that is read piece by piece needs no second reading.
+ * so a film that is read piece by piece needs no second reading. It needs 8 bytes of stack below its call.
  */
 uint64_t usm_payload_bits(uint8_t mask, size_t length);
 

@@ -144,10 +144,33 @@ static uint64_t shown_by_audio(size_t len)
     return bits;
 }
 
+/* What a payload of any mask and length shows. */
+static uint64_t shown_by(uint8_t mask, size_t len)
+{
+    if (mask == USM_MASK_VIDEO)
+        return len < 0x240 ? 0 : ALL_BITS;
+    return mask == USM_MASK_AUDIO ? shown_by_audio(len) : 0;
+}
+
+/* Every mask, with every length up to 0x400 and some that are far longer. */
+static void try_payload_bits(void)
+{
+    static const size_t LONG[] = {0x10000, (size_t)1 << 31, (size_t)1 << 32, ((size_t)1 << 32) + 0x141, SIZE_MAX - 1, SIZE_MAX};
+    size_t len, i;
+    int mask;
+
+    for (mask = 0; mask < 256; mask++) {
+        for (len = 0; len < 0x400; len++)
+            expect(usm_payload_bits((uint8_t)mask, len) == shown_by((uint8_t)mask, len), "other bits of a payload");
+        for (i = 0; i < sizeof LONG / sizeof LONG[0]; i++)
+            expect(usm_payload_bits((uint8_t)mask, LONG[i]) == shown_by((uint8_t)mask, LONG[i]), "other bits of a payload");
+    }
+}
+
 /* A film of one payload shows what usm.h says of it, and that is what its streams show. */
 static void try_payload(enum edge edge, int video, size_t len, struct chance *chance)
 {
-    uint64_t expected = video ? (len < 0x240 ? 0 : ALL_BITS) : shown_by_audio(len);
+    uint64_t expected = shown_by(video ? USM_MASK_VIDEO : USM_MASK_AUDIO, len);
     static uint8_t payload[0x400];
     struct usm_packing packing;
     struct usm_size_reply written;
@@ -236,6 +259,7 @@ int main(int count, char **words)
     expect(sizeof(struct usm_key_bits_reply) == 24, "a reply of another size than usm.h says");
     show_catch();
     expect_no_signal();
+    try_payload_bits();
     try_payloads(ENDS);
     try_payloads(BEGINS);
     try_cases(seconds, try_case);

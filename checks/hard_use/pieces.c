@@ -1,5 +1,5 @@
 /*
- * Hard use of usm_open, usm_step and usm_clear: films made by chance, whole and damaged, read piece by piece, each piece
+ * Hard use of usm_open, usm_step, usm_clear and usm_payload_bits: films made by chance, whole and damaged, read piece by piece, each piece
  * lent at a page that may not be touched; steps at any place of films of any length; payloads under every mask. See
  * README.md.
  *
@@ -210,6 +210,7 @@ static void try_steps(enum edge edge, struct chance *chance)
 {
     struct usm_film_audio audio = usm_audio_of(whole.opened.film);
     size_t place = whole.opened.chunks, count = 0, video = 0, audio_size = 0;
+    uint64_t bits = 0;
 
     for (;;) {
         size_t left = place < whole.len ? whole.len - place : 0;
@@ -234,10 +235,13 @@ static void try_steps(enum edge edge, struct chance *chance)
             if (said.kind == USM_CHUNK_AUDIO)
                 audio_size = try_payload(edge, said, whole.audio, whole.film.audio_size, audio_size, chance);
         }
+        if (bits < usm_payload_bits(said.mask, said.length))
+            bits = usm_payload_bits(said.mask, said.length);
         count++;
         place = said.next;
     }
     if (whole.film.number == USM_ACCEPTED) {
+        expect(bits == usm_key_bits(whole.bytes, whole.len, whole.reading).bits, "other bits than the whole film's");
         expect(count == whole.listed.count, "fewer chunks than the listing's");
         expect(video == whole.film.video_size && audio_size == whole.film.audio_size, "streams of other lengths");
         accepted++;

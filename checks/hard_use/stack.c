@@ -204,6 +204,7 @@ typedef struct usm_open_reply open_act(const uint8_t *, size_t, size_t, struct u
 typedef struct usm_step_reply step_act(const uint8_t *, size_t, size_t, size_t, struct usm_reading, struct usm_film_audio);
 typedef void clear_act(uint64_t, uint8_t, uint8_t *, size_t);
 typedef struct usm_key_bits_reply bits_act(const uint8_t *, size_t, struct usm_reading);
+typedef uint64_t payload_act(uint8_t, size_t);
 
 /* What a call is given, the functions that are called, and where their replies go. */
 struct piece {
@@ -217,9 +218,11 @@ struct piece {
     step_act *volatile step;
     clear_act *volatile clear;
     bits_act *volatile bits;
+    payload_act *volatile payload;
     struct usm_open_reply opened;
     struct usm_step_reply stepped;
     struct usm_key_bits_reply shown;
+    uint64_t shown_by_one;
 };
 
 static struct piece piece;
@@ -243,6 +246,11 @@ static void ask_clear(struct piece *p)
 static void ask_bits(struct piece *p)
 {
     p->shown = p->bits(p->bytes, p->len, p->reading);
+}
+
+static void ask_payload_bits(struct piece *p)
+{
+    p->shown_by_one = p->payload(p->mask, p->len);
 }
 
 static struct usm_open_reply no_open(const uint8_t *bytes, size_t len, size_t total, struct usm_reading reading)
@@ -269,6 +277,11 @@ static struct usm_key_bits_reply no_bits(const uint8_t *bytes, size_t len, struc
     return piece.shown;
 }
 
+static uint64_t no_payload_bits(uint8_t mask, size_t len)
+{
+    return mask + len;
+}
+
 /* A function that takes pieces: how it is called, and what usm.h says that it needs. */
 struct reader {
     const char *name;
@@ -281,6 +294,7 @@ static const struct reader READERS[] = {
     {"usm_step", ask_step, 136},
     {"usm_clear", ask_clear, 296},
     {"usm_key_bits", ask_bits, 1600},
+    {"usm_payload_bits", ask_payload_bits, 8},
 };
 
 static void call_functions(int real)
@@ -289,6 +303,7 @@ static void call_functions(int real)
     piece.step = real ? usm_step : no_step;
     piece.clear = real ? usm_clear : no_clear;
     piece.bits = real ? usm_key_bits : no_bits;
+    piece.payload = real ? usm_payload_bits : no_payload_bits;
 }
 
 /* A way to make one call of a reader with the piece as it is. */
@@ -347,7 +362,7 @@ static void visit_films(const struct reader *reader, visit *does, void *state)
 
 static void visit_all(const struct reader *reader, visit *does, void *state)
 {
-    if (reader->ask == ask_clear)
+    if (reader->ask == ask_clear || reader->ask == ask_payload_bits)
         visit_payloads(reader, does, state);
     else
         visit_films(reader, does, state);

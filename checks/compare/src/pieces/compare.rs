@@ -54,6 +54,7 @@ fn by_pieces(case: &Case, call: &Call, expected: &Expected, seen: &mut Tally) ->
     };
     header(call, opened.film, beginning, film).map_err(|what| format!("usm_open: {what}"))?;
     chunks(&found, film).map_err(|what| format!("usm_step: {what}"))?;
+    bits_of_payloads(case, call, &found).map_err(|what| format!("usm_payload_bits: {what}"))?;
     for (kind, stream) in [(VIDEO, &film.video), (AUDIO, &film.audio)] {
         if reader.stream(&found, kind, call.key())? != *stream {
             return Err(format!("usm_clear: the stream of kind {kind} is another"));
@@ -95,6 +96,12 @@ fn chunks(found: &[Found], film: &Film) -> Result<(), String> {
         Some((ours, theirs)) => Err(format!("a chunk is {ours:?}, and {theirs:?} is expected")),
         None => same(ours.len(), theirs.len()),
     }
+}
+
+/// The most that a payload shows is what the film shows.
+fn bits_of_payloads(case: &Case, call: &Call, found: &[Found]) -> Result<(), String> {
+    let most = found.iter().map(|(_, step)| exports::payload_bits(step.mask, step.length)).max();
+    same(most.unwrap_or(0), exports::key_bits(case.container(), call.reading()).bits)
 }
 
 /// A step as the record that a listing has.

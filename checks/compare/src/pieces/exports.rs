@@ -1,5 +1,5 @@
-//! The functions of libusm.a that read a film piece by piece, and the one that tells the bits of a key that a film
-//! shows, as include/usm.h declares them, behind safe calls.
+//! The functions of libusm.a that read a film piece by piece, and those that tell the bits of a key that a film and a
+//! payload show, as include/usm.h declares them, behind safe calls.
 
 use crate::containers::answer::Refusal;
 use crate::containers::exports::{FilmReply, ReadingBytes};
@@ -70,6 +70,7 @@ unsafe extern "C" {
     ) -> StepReply;
     fn usm_clear(key: u64, mask: u8, payload: *mut u8, len: usize);
     fn usm_key_bits(container: *const u8, len: usize, reading: ReadingBytes) -> KeyBitsReply;
+    fn usm_payload_bits(mask: u8, length: usize) -> u64;
 }
 
 // SAFETY, for the calls below: each pointer and length are those of one slice, lent to this call.
@@ -88,6 +89,11 @@ pub fn clear(key: u64, mask: u8, payload: &mut [u8]) {
 
 pub fn key_bits(container: &[u8], reading: ReadingBytes) -> KeyBitsReply {
     unsafe { usm_key_bits(container.as_ptr(), container.len(), reading) }
+}
+
+pub fn payload_bits(mask: u8, length: usize) -> u64 {
+    // SAFETY: it takes numbers alone.
+    unsafe { usm_payload_bits(mask, length) }
 }
 
 /// The refusal that a reply has, where it has one.
