@@ -1,107 +1,11 @@
-"""@UTF tables: how they are made by chance, read by rules T1 to T15, and written as CSV by rules V, from the documents alone.
+"""@UTF tables made by chance, and written as CSV by rules V, from the documents alone. What reads them is model/usm.py.
 
-It knows nothing of the library: what it answers is what the library must.
+It knows nothing of the library: what it answers is what the library must. Whoever imports it has the model on its path.
 """
-import random
 import struct
 
-WIDTHS = [1, 1, 2, 2, 4, 4, 8, 0, 4, 0, 4, 8, 0, 0, 0, 0]
-STRING, DATA, FLOAT = 0xA, 0xB, 8
-
-
-class Refused(Exception):
-    """The number of a refusal, as its first argument."""
-
-
-def number_at(bytes_, at, width):
-    return int.from_bytes(bytes_[at:at + width], "big")
-
-
-def string_at(body, place):
-    if place < 24:
-        raise Refused(1)
-    end = body.find(0, place - 24)
-    if end < 0:
-        raise Refused(1)
-    return body[place - 24:end]
-
-
-def value_text(body, kind, at, strings, blobs):
-    """The text of the cell of a type whose bytes stand at a body byte."""
-    width = WIDTHS[kind]
-    if width == 0:
-        raise Refused(8)
-    if len(body) < at + width:
-        raise Refused(1)
-    number = number_at(body, at, width)
-    if kind == STRING:
-        return string_at(body, strings + number)
-    if kind == DATA:
-        start, size = blobs + (number >> 32), number & 0xFFFFFFFF
-        if size == 0:
-            return b""
-        if start < 24 or len(body) < start - 24 + size:
-            raise Refused(1)
-        return body[start - 24:start - 24 + size].hex().encode()
-    if kind == FLOAT:
-        return b"%08x" % number
-    if kind in (1, 3, 5) and number >> (8 * width - 1):
-        number -= 1 << (8 * width)
-    return b"%d" % number
-
-
-def zero_text(kind):
-    if WIDTHS[kind] == 0:
-        raise Refused(8)
-    return {STRING: b"", DATA: b"", FLOAT: b"00000000"}.get(kind, b"0")
-
-
-def texts(table, zero_columns):
-    """The records of a table, each a list of fields; or Refused."""
-    if len(table) < 4:
-        raise Refused(1)
-    if table[:4] != b"@UTF":
-        raise Refused(3)
-    if len(table) < 32:
-        raise Refused(1)
-    size = number_at(table, 4, 4)
-    if size < 24:
-        raise Refused(9)
-    if len(table) < 8 + size:
-        raise Refused(1)
-    columns, rows = number_at(table, 24, 2), number_at(table, 28, 4)
-    if columns > 64 or rows > 256:
-        raise Refused(10)
-    body = table[32:8 + size]
-    offset = number_at(table, 10, 2)
-    strings, blobs = number_at(table, 12, 4), number_at(table, 16, 4)
-    at, made = 0, []
-    for _ in range(columns):
-        if len(body) < at + 5:
-            raise Refused(1)
-        tag = body[at]
-        name = string_at(body, strings + number_at(body, at + 1, 4))
-        nibble, kind, constant = tag >> 4, tag & 15, None
-        at += 5
-        if nibble in (3, 7):
-            constant = value_text(body, kind, at, strings, blobs)
-            at += WIDTHS[kind]
-        elif zero_columns and nibble not in (1, 5):
-            raise Refused(18)
-        made.append((name, nibble, kind, constant))
-    records, at = [[name for name, _, _, _ in made]], offset - 24 if offset >= 24 else len(body)
-    for _ in range(rows):
-        record = []
-        for _, nibble, kind, constant in made:
-            if constant is not None:
-                record.append(constant)
-            elif zero_columns and nibble == 1:
-                record.append(zero_text(kind))
-            else:
-                record.append(value_text(body, kind, at, strings, blobs))
-                at += WIDTHS[kind]
-        records.append(record)
-    return records if columns else []
+import usm
+from usm import DATA, STRING, WIDTHS, Refused, texts
 
 
 def csv_of(records):
@@ -162,8 +66,7 @@ def table_by(chance, most_columns=8, most_rows=5):
     strings = start + len(cells)
     blobs = strings + len(pool)
     body = bytes(records + cells + pool) + blob
-    head = struct.pack(">4sIHHIIIHHI", b"@UTF", 24 + len(body), 1, start, strings, blobs, 0, columns, 0, rows)
-    table = bytearray(head + body)
+    table = bytearray(usm.table(body, columns, rows, start, strings, blobs, version=1))
     if chance.random() < 0.05:
         table = table[:chance.randrange(len(table) + 1)]
     if chance.random() < 0.1 and table:
@@ -176,4 +79,4 @@ def answer(table, zero_columns):
     try:
         return csv_of(texts(table, zero_columns))
     except Refused as refusal:
-        return refusal.args[0]
+        return refusal.number

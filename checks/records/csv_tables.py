@@ -5,12 +5,12 @@
 """
 import os
 import random
-import struct
 import sys
 
 HERE = os.path.dirname(os.path.abspath(__file__))
 sys.dont_write_bytecode = True  # the import leaves no folder behind
-sys.path.insert(0, os.path.join(HERE, "..", "csv_check"))
+sys.path[:0] = [os.path.join(HERE, "..", "model"), os.path.join(HERE, "..", "csv_check")]
+import usm
 from tables import answer, table_by
 
 ROOM = 4096
@@ -20,8 +20,8 @@ LIST = 60000
 def cases():
     """By hand: no columns with and without rows, one empty text, repeated names, every mark; then by chance."""
     def table(records, cells, pool, columns, rows):
-        body = records + cells + pool
-        return struct.pack(">4sIHHIIIHHI", b"@UTF", 24 + len(body), 1, 24 + len(records), 24 + len(records) + len(cells), 24 + len(body), 0, columns, 0, rows) + body
+        body, row = records + cells + pool, 24 + len(records)
+        return usm.table(body, columns, rows, row, row + len(cells), 24 + len(body), version=1)
     yield table(b"", b"", b"", 0, 0)
     yield table(b"", b"", b"", 0, 256)
     yield table(b"\x3a" + bytes(8), b"", b"\0", 1, 2)

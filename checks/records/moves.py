@@ -9,21 +9,17 @@ should stand, with nothing checked, the film is put together anew from them, and
 where it would write another film than the builder wrote. Rules W are those of writes.py. The format of both
 files is in crates/gate_moves/README.md.
 """
+import os
 import sys
 from collections import namedtuple
 
 sys.dont_write_bytecode = True  # the import leaves no folder behind
-from writes import EMPTY, MARKER, answer, digest, film_of, masked_audio, masked_video, payloads
+sys.path.insert(0, os.path.join(os.path.dirname(os.path.abspath(__file__)), "..", "model"))
+import usm
+from usm import EMPTY, END, PAYLOAD, be, masked_audio, masked_video, number_at, payloads
+from writes import answer, digest, film_of
 
-MOST_LIST, MOST_BYTES, PAYLOAD = 0x64000, 0x28000, 65536
-
-
-def be(number, width):
-    return number.to_bytes(width, "big")
-
-
-def number(data, at, width=4):
-    return int.from_bytes(data[at:at + width], "big")
+MOST_LIST, MOST_BYTES = 0x64000, 0x28000
 
 
 # ---- rules O: the film of the old builder
@@ -37,9 +33,8 @@ def head(letters, size, first=0, second=0):
     return letters + be(size, 4) + be(1, 2) + be(0x18, 2) + be(first, 4) + be(second, 4) + bytes(8)
 
 
-def table(rows, strings, data, columns, row, body):
-    offsets = be(rows, 2) + be(strings, 4) + be(data, 4) + bytes(4)
-    return b"@UTF" + be(24 + len(body), 4) + be(1, 2) + offsets + be(columns, 2) + be(row, 2) + be(1, 4) + body
+def table(rows, strings, data, columns, width, body):
+    return usm.table(body, columns, 1, rows, strings, data, version=1, width=width)
 
 
 def table_block(letters, inside):
@@ -83,7 +78,7 @@ def old_blocks(film):
     at = 0
     while film[at:at + 4] in (b"CRID", b"@SFV", b"@SFA", b"@SBV", b"@SBA"):
         counted = 0x18 if film[at:at + 3] == b"@SB" else 20
-        end = at + 28 + max(0, number(film, at + 4) - counted)
+        end = at + 28 + max(0, number_at(film, at + 4, 4) - counted)
         yield film[at:at + 4], at, end
         at = end + -end % 0x20
 
@@ -98,8 +93,8 @@ def old_parts(film):
             audios.append(b"")
         if letters == b"@SBV":
             video += held
-        if letters == b"@SBA" and number(film, at + 16) < len(audios):
-            audios[number(film, at + 16)] += held
+        if letters == b"@SBA" and number_at(film, at + 16, 4) < len(audios):
+            audios[number_at(film, at + 16, 4)] += held
     return name, video, audios
 
 
@@ -110,13 +105,13 @@ def new_blocks(container):
     """Of each block: letters, and what it holds."""
     at = 0
     while at < len(container):
-        end = at + 8 + number(container, at + 4)
-        yield container[at:at + 4], container[at + 0x20:max(0, end - number(container, at + 10, 2))]
+        end = at + 8 + number_at(container, at + 4, 4)
+        yield container[at:at + 4], container[at + 0x20:max(0, end - number_at(container, at + 10, 2))]
         at = end
 
 
 def codec_in(inside):
-    return None if inside == EMPTY else number(inside, 37)
+    return None if inside == EMPTY else number_at(inside, 37, 4)
 
 
 def new_parts(container):
@@ -124,7 +119,7 @@ def new_parts(container):
     has_audio = blocks[2][0] == b"@SFA"
     streams = {b"@SFV": b"", b"@SFA": b""}
     for letters, inside in blocks[9 if has_audio else 5:]:
-        if inside.startswith(MARKER) or letters not in streams:
+        if inside.startswith(END) or letters not in streams:
             break
         streams[letters] += inside
     name = blocks[0][1][54:]
@@ -235,7 +230,7 @@ def damaged_films(plain, both, two):
         yield onward(other)
     # a size of one more takes a zero of the padding, and one less leaves a byte there; so of either stream and the name
     for letters in b"@SBV", b"@SBA", b"CRID":
-        size = number(film, place[letters] + 4)
+        size = number_at(film, place[letters] + 4, 4)
         yield onward(put(film, place[letters] + 4, *be(size + 1, 4)))
         yield onward(put(film, place[letters] + 4, *be(size - 1, 4)))
     # another number of an audio, another place in a stream, other frames, chunks the other way round
@@ -257,7 +252,7 @@ def damaged_films(plain, both, two):
 def refused_films(plain, two, marked):
     """In their order: 20, 23, 15, 16."""
     yield onward(two.film, room=0)
-    yield onward(old_film(b"n", MARKER, [b"a", b"b"]), (1, 9), (1, 2))
+    yield onward(old_film(b"n", END, [b"a", b"b"]), (1, 9), (1, 2))
     for codec in (1, 2), (255, 0):
         yield onward(plain.film, audio=codec, room=0)
     yield onward(marked.film, audio=(1, 4))
@@ -273,11 +268,11 @@ def containers(masked):
     yield from (back(c) for c in (alone, both))
     for name, video, audio, video_codec, audio_codec in (
         (b"", b"", None, None, None), (b"n", b"", b"", 2**32 - 1, None), (b"x" * 42, b"v" * 4, b"", None, 4),
-        ("𝄞".encode(), b"v", b"a" * 32, None, 2**32 - 1), (b"cut", MARKER[:12], None, None, None),
+        ("𝄞".encode(), b"v", b"a" * 32, None, 2**32 - 1), (b"cut", END[:12], None, None, None),
         (masked.name, masked.video, masked.audios[0], 9, 2),
         # no text, and a payload that W8 refuses
-        (b"\xFF", b"v", None, None, None), (b"\xED\xBF\xBF", b"", None, None, None), (b"n", MARKER, None, None, None),
-        (b"n", b"v", MARKER + b"a", None, 2)):
+        (b"\xFF", b"v", None, None, None), (b"\xED\xBF\xBF", b"", None, None, None), (b"n", END, None, None, None),
+        (b"n", b"v", END + b"a", None, 2)):
         yield back(film_of(name, video, audio, video_codec, audio_codec, None))
     size = moved_back(alone, 0)[1]
     for room in size, size - 1, 0:
@@ -285,13 +280,13 @@ def containers(masked):
     # a byte of each block: of its head, of what it holds, of its last bytes
     at, turn = 0, 0
     while at < len(alone):
-        end = at + 8 + number(alone, at + 4)
+        end = at + 8 + number_at(alone, at + 4, 4)
         yield back(changed(alone, (at + 12, at + 0x20, end - 1)[turn % 3]))
         at, turn = end, turn + 1
     # another codec, and a video of one byte more: other containers that the move writes
     first, ends = len(alone) - 128, len(alone) - 64
     yield back(put(alone, alone.index(b"mpeg_codec") - 4, 1, 2, 3, 4))
-    yield back(put(alone, first + 10, 0, number(alone, first + 10, 2) - 1))
+    yield back(put(alone, first + 10, 0, number_at(alone, first + 10, 2) - 1))
     # a payload in two, turns the other way round, an end that is missing, cut, made longer
     yield back(alone[:first] + 2 * alone[first:ends] + alone[ends:])
     start = len(both) - 128 - 160
@@ -311,7 +306,7 @@ def main(folder):
     plain = first(lambda film: len(film.video) == 5 and not film.audios)
     both = first(lambda film: len(film.video) == 32 and len(film.audios) == 1)
     two = first(lambda film: len(film.audios) == 2)
-    marked = first(lambda film: film.video == MARKER)
+    marked = first(lambda film: film.video == END)
     masked = first(lambda film: 0x240 <= len(film.video) and film.audios)
     lines = [*whole_films(films), *damaged_films(plain, both, two), *refused_films(plain, two, marked), *containers(masked)]
     asked = "".join(line + "\n" for line, _ in lines)

@@ -4,13 +4,19 @@
     checks/records/writes.py crates/gate_writes
 
 It knows nothing of the library. It states rules W of docs/RULES.md once more, in the plainest way: a film is put
-together block by block as a bytes object, payloads are masked byte by byte by rules K and M, and what is read back is
+together block by block as a bytes object (model/usm.py), payloads are masked byte by byte, and what is read back is
 what was given. The format of both files is in crates/gate_writes/README.md.
 """
+import os
 import sys
 
+sys.dont_write_bytecode = True  # the import leaves no folder behind
+sys.path.insert(0, os.path.join(os.path.dirname(os.path.abspath(__file__)), "..", "model"))
+import usm
+from usm import END, be, block, marker, masked_audio, masked_video, payloads
+
+# Where name, video and audio stand in the bytes that the generator makes.
 NAME, VIDEO, AUDIO, SPACE = 0, 0x1000, 0x28000, 0x50000
-MARKER = b"#CONTENTS END"
 
 
 def sample(count):
@@ -29,105 +35,34 @@ def digest(data):
     return "%08x" % h
 
 
-# ---- rules K and M
-
-
-def tables(key):
-    """T, V and A of a key."""
-    k = [key >> 8 * i & 0xFF for i in range(8)]
-    t = [0] * 32
-
-    def put(i, value):
-        t[i] = value & 0xFF
-
-    put(0, k[0]), put(1, k[1]), put(2, k[2]), put(3, k[3] - 0x34)
-    put(4, k[4] % 16 + 0xF9), put(5, k[5] ^ 0x13), put(6, k[6] + 0x61), put(7, t[0] ^ 0xFF)
-    put(8, t[2] + t[1]), put(9, t[1] - t[7]), put(0xA, t[2] ^ 0xFF), put(0xB, t[1] ^ 0xFF)
-    put(0xC, t[0xB] + t[9]), put(0xD, t[8] - t[3]), put(0xE, t[0xD] ^ 0xFF), put(0xF, t[0xA] - t[0xB])
-    put(0x10, t[8] - t[0xF]), put(0x11, t[0x10] ^ t[7]), put(0x12, t[0xF] ^ 0xFF), put(0x13, t[3] ^ 0x10)
-    put(0x14, t[4] - 0x32), put(0x15, t[5] + 0xED), put(0x16, t[6] ^ 0xF3), put(0x17, t[0x13] - t[0xF])
-    put(0x18, t[0x15] + t[7]), put(0x19, 0x21 - t[0x13]), put(0x1A, t[0x14] ^ t[0x17]), put(0x1B, t[0x16] + t[0x16])
-    put(0x1C, t[0x17] + 0x44), put(0x1D, t[3] + t[4]), put(0x1E, t[5] - t[0x16]), put(0x1F, t[0x1D] ^ t[0x13])
-    v = [x ^ 0xFF for x in t]
-    a = [v[i] if i % 2 == 0 else b"URUC"[i // 2 % 4] for i in range(32)]
-    return t, v, a
-
-
-def masked_video(key, clear):
-    if len(clear) < 0x240:
-        return clear
-    t, v, _ = tables(key)
-    stored = bytearray(clear)
-    for i in range(0x140, len(clear)):
-        before = clear[i - 32] if 0x160 <= i else 0
-        stored[i] = clear[i] ^ before ^ v[i % 32]
-    for i in range(0x40, 0x140):
-        row, lane = (i - 0x40) // 32, i % 32
-        value = clear[i] ^ t[lane]
-        for r in range(row + 1):
-            value ^= clear[0x140 + 32 * r + lane]
-        stored[i] = value
-    return bytes(stored)
-
-
-def masked_audio(key, clear):
-    _, _, a = tables(key)
-    return bytes(b ^ a[i % 32] if 0x140 <= i else b for i, b in enumerate(clear))
-
-
 # ---- rules W
 
 
-def block(letters, inside):
-    padding = -len(inside) % 0x20
-    size = 0x18 + len(inside) + padding
-    head = letters + size.to_bytes(4, "big") + b"\0\x18" + padding.to_bytes(2, "big") + bytes(20)
-    return head + inside + bytes(padding)
-
-
-def marker(text):
-    return text + bytes(0x20 - len(text))
-
-
-EMPTY = b"@UTF\0\0\0\x18" + bytes(24)
-
-
-def table(kind, column, cell, data):
-    body = bytes([kind]) + bytes(4) + cell + column + b"\0" + data
+def one_cell(kind, column, cell, data):
+    """A table of one column and one row."""
     strings = 24 + 5 + len(cell)
-    after = strings + len(column) + 1
-    head = bytes(2) + (29).to_bytes(2, "big") + strings.to_bytes(4, "big") + after.to_bytes(4, "big")
-    head += len(column).to_bytes(4, "big") + b"\0\1" + len(cell).to_bytes(2, "big") + b"\0\0\0\1"
-    return b"@UTF" + (len(head) + len(body)).to_bytes(4, "big") + head + body
+    body = bytes([kind]) + bytes(4) + cell + column + b"\0" + data
+    return usm.table(body, 1, 1, 29, strings, strings + len(column) + 1, name=len(column), width=len(cell))
 
 
 def codec_table(column, codec):
-    return EMPTY if codec is None else table(0x54, column, codec.to_bytes(4, "big"), b"")
-
-
-def payloads(stream):
-    return [stream[i:i + 65536] for i in range(0, len(stream), 65536)]
+    return usm.EMPTY if codec is None else one_cell(0x54, column, be(codec, 4), b"")
 
 
 def film_of(name, video, audio, video_codec, audio_codec, key):
     """A film's bytes; None stands for what is not there."""
-    letters = [b"@SFV"] if audio is None else [b"@SFV", b"@SFA"]
-    made = block(b"CRID", table(0x5B, b"filename", bytes(4) + len(name).to_bytes(4, "big"), name))
-    made += block(b"@SFV", codec_table(b"mpeg_codec", video_codec))
-    if audio is not None:
-        made += block(b"@SFA", codec_table(b"audio_codec", audio_codec))
-    for inside in marker(b"#HEADER END"), EMPTY, marker(b"#METADATA END"):
-        for word in letters:
-            made += block(word, inside)
+    entry = one_cell(0x5B, b"filename", bytes(4) + be(len(name), 4), name)
+    codecs = codec_table(b"mpeg_codec", video_codec), codec_table(b"audio_codec", audio_codec)
+    made = usm.header(audio is not None, entry, *codecs, framed=True)
     seen, heard = payloads(video), payloads(audio or b"")
     for turn in range(max(len(seen), len(heard))):
         if turn < len(seen):
-            made += block(b"@SFV", seen[turn] if key is None else masked_video(key, seen[turn]))
+            made += block(usm.VIDEO, seen[turn] if key is None else masked_video(key, seen[turn]), framed=True)
         if turn < len(heard):
             masks = key is not None and audio_codec == 2
-            made += block(b"@SFA", masked_audio(key, heard[turn]) if masks else heard[turn])
-    for word in letters:
-        made += block(word, marker(MARKER))
+            made += block(usm.AUDIO, masked_audio(key, heard[turn]) if masks else heard[turn], framed=True)
+    for letters in usm.streams_of(audio is not None):
+        made += block(letters, marker(END), framed=True)
     return made
 
 
@@ -137,7 +72,7 @@ def answer(name, video, audio, video_codec, audio_codec, key, room):
     if audio is None and audio_codec is not None:
         return 23, 0, untouched
     film = film_of(name, video, audio, video_codec, audio_codec, key)
-    if any(p.startswith(MARKER) for p in payloads(video) + payloads(audio or b"")):
+    if any(p.startswith(END) for p in payloads(video) + payloads(audio or b"")):
         return 15, 0, untouched
     if room < len(film):
         return 16, len(film), untouched
@@ -203,7 +138,7 @@ def main(folder):
         name, video, audio, video_codec, audio_codec, key, place, room = case
         space = bytearray(clear)
         if place:
-            space[place:place + len(MARKER)] = MARKER
+            space[place:place + len(END)] = END
         name, video = bytes(space[NAME:NAME + name]), bytes(space[VIDEO:VIDEO + video])
         audio = None if audio is None else bytes(space[AUDIO:AUDIO + audio])
         if room is None:

@@ -1,83 +1,36 @@
 #!/usr/bin/env python3
 """Films, and what requests 8 and 14 ask of them, in the plainest words: no part of the library is used.
 
-    crates/gate_requests/cases.py crates/gate_requests
+    checks/records/requests.py FOLDER
 
 writes the films to FOLDER/stdin, a line each, and the answers to FOLDER/stdout. Films are made of a header (that of
 example F, or one with audio) and of chunks by chance, from a fixed seed; every number is read back from the bytes.
 """
+import os
 import random
-import struct
 import sys
 
-SFV, SFA, END = b"@SFV", b"@SFA", b"#CONTENTS END"
-
-
-def block(letters, inside, size=None):
-    body = inside + bytes(-len(inside) % 0x20)
-    return letters + struct.pack(">IHH", 0x18 + len(body) if size is None else size, 0, 0) + bytes(20) + body
-
-
-def table():
-    return b"@UTF" + struct.pack(">I", 24) + bytes(24)
-
-
-def header(audio):
-    streams = [SFV, SFA] if audio else [SFV]
-    film = block(b"CRID", table())
-    for inside in (table(), b"#HEADER END", table(), b"#METADATA END"):
-        for letters in streams:
-            film += block(letters, inside)
-    return film
+sys.dont_write_bytecode = True  # the import leaves no folder behind
+sys.path.insert(0, os.path.join(os.path.dirname(os.path.abspath(__file__)), "..", "model"))
+import usm
+from usm import AUDIO as SFA, END, VIDEO as SFV, header, streams_of, walk
 
 
 def chunk(letters, payload, head=0x18, pad=True, end=False):
+    """A chunk, or an end. What follows its payload is counted as its footer."""
     inside = END if end else payload
     padding = -len(inside) % 0x20 if pad else 13
     footer = padding + (len(inside) if end else 0)
-    size = head + len(inside) + padding
-    return letters + struct.pack(">IHH", size, head, footer) + bytes(20) + inside + bytes(padding)
-
-
-def read(film, at, size):
-    return int.from_bytes(film[at:at + size], "big")
-
-
-def chunks_of(film, at):
-    """(start, letters, is an end, payload's length) of each chunk, or the place of a refusal, which is 1 or 9."""
-    found = []
-    while len(film) - at >= 4:
-        if len(film) - at < 45:
-            return found, (1, at)
-        size, head, foot = read(film, at + 4, 4), read(film, at + 8, 2), read(film, at + 10, 2)
-        end = film[at + 0x20:at + 0x20 + 13] == END
-        found.append((at, film[at:at + 4], end, size, head, foot))
-        at += 8 + size
-    return found, None
-
-
-def taken(film, found, stop, streams):
-    """The payload lengths of the streams that are taken, or the first refusal."""
-    lengths = {}
-    for start, letters, end, size, head, foot in found:
-        if end or letters not in streams:
-            continue
-        if size < head + foot:
-            return None, (9, start)
-        if start + 0x20 + size - head - foot > len(film):
-            return None, (1, start)
-        lengths[start] = size - head - foot
-    return (None, stop) if stop else (lengths, None)
+    return usm.chunk(letters, inside, head, footer, head + len(inside) + padding, padding)
 
 
 def verdict(film, audio, start):
-    found, stop = chunks_of(film, start)
-    _, refused = taken(film, found, stop, [SFV, SFA] if audio else [SFV])
+    chunks, refused = walk(film, start, streams_of(audio))
     if refused:
-        return "refused %d at %d" % refused
+        return "refused %d at %d" % (refused.number, refused.place)
     present = {SFV: "video", SFA: "audio"} if audio else {SFV: "video"}
     closed = set()
-    for at, letters, end, size, head, _ in found:
+    for at, letters, end, size, head, _, _ in chunks:
         if head != 0x18:
             return "not plain: rule 1 at %d, chunk header size 0x18" % at
         if (size + 8) % 0x20:
@@ -95,14 +48,13 @@ def verdict(film, audio, start):
 
 
 def jumps(film, start):
-    found, stop = chunks_of(film, start)
-    lengths, refused = taken(film, found, stop, [SFV])
+    chunks, refused = walk(film, start, [SFV])
     if refused:
-        return ["refused %d at %d" % refused]
+        return ["refused %d at %d" % (refused.number, refused.place)]
     entries, stream = [], []
-    for at in lengths:
-        entries.append((len(stream), at, lengths[at]))
-        stream += [(at, i) for i in range(lengths[at])]
+    for taken in (chunk for chunk in chunks if chunk.payload is not None):
+        entries.append((len(stream), taken.start, len(taken.payload)))
+        stream += [(taken.start, i) for i in range(len(taken.payload))]
     answers = ["%d+%d" % stream[n] if n < len(stream) else "-" for n in range(64)]
     return ["index" + "".join(" %d:%d:%d" % entry for entry in entries), "jumps " + " ".join(answers)]
 
@@ -133,8 +85,8 @@ def films(chance):
         yield audio, b"".join(parts)
 
 
-def main():
-    with open(sys.argv[1] + "/stdin", "w") as given, open(sys.argv[1] + "/stdout", "w") as expected:
+def main(folder):
+    with open(folder + "/stdin", "w") as given, open(folder + "/stdout", "w") as expected:
         for audio, chunks in films(random.Random(14)):
             first = header(audio)
             film = first + chunks
@@ -143,4 +95,6 @@ def main():
                 expected.write(line + "\n")
 
 
-main()
+if len(sys.argv) != 2:
+    sys.exit("usage: checks/records/requests.py FOLDER")
+main(sys.argv[1])
