@@ -219,32 +219,19 @@ static void show_catch(void)
     printf("key_bits: told of a byte more than lent, a call ends by SIGSEGV\n");
 }
 
-/* F's header, then chunks of video so many bytes apart, the last one up to the end of the longest film; timed beside a
- * listing that measures. */
+/* The longest film with chunks so many bytes apart, timed beside a listing that counts. */
 static void time_longest(size_t apart, uint64_t bits)
 {
-    uint8_t *film = make_zeros(LONGEST);
+    uint8_t *film = make_longest(apart);
+    double began = seconds_by(CLOCK_PROCESS_CPUTIME_ID), between;
     struct usm_key_bits_reply reply;
-    double began, between, listing;
-    size_t at, next;
 
-    make_f(film);
-    for (at = F_VIDEO; at < LONGEST; at = next) {
-        next = LONGEST - at < 2 * apart ? LONGEST : at + apart;
-        put_text(film + at, "@SFV");
-        put32(film + at + 4, next - at - 8);
-        put32(film + at + 8, 24 << 16);
-        memset(film + at + 32, 0, 13);
-    }
-    expect(mprotect(film, LONGEST, PROT_READ) == 0, "not made read-only");
-    began = seconds_by(CLOCK_PROCESS_CPUTIME_ID);
     expect(usm_list(film, LONGEST, USM_READ_WITH_AUDIO, NULL, 0).number == USM_SHORT_LIST, "the longest film is refused");
     between = seconds_by(CLOCK_PROCESS_CPUTIME_ID);
     reply = usm_key_bits(film, LONGEST, USM_READ_WITH_AUDIO);
-    listing = between - began;
     printf("key_bits: 1 GiB, chunks %zu bytes apart: usm_list without a list %.2f ms, usm_key_bits %.2f ms of the "
            "processor\n",
-           apart, listing * 1e3, (seconds_by(CLOCK_PROCESS_CPUTIME_ID) - between) * 1e3);
+           apart, (between - began) * 1e3, (seconds_by(CLOCK_PROCESS_CPUTIME_ID) - between) * 1e3);
     expect(reply.number == USM_ACCEPTED && reply.bits == bits, "other bits of the longest film");
     reply = usm_key_bits(film, LONGEST + 1, USM_READ_WITH_AUDIO);
     expect(reply.number == USM_TOO_LONG && reply.refused_at == 0 && reply.bits == 0, "a film of a byte more");

@@ -60,6 +60,14 @@ uint8_t *make_zeros(size_t bytes)
     return whole + room - bytes;
 }
 
+void forbid_writing(uint8_t *bytes, size_t len)
+{
+    if (mprotect(bytes, len, PROT_READ) != 0) {
+        perror("mprotect");
+        exit(2);
+    }
+}
+
 /* Where a slice of some bytes begins. */
 static size_t place_of(const struct memory *memory, enum edge edge, size_t len)
 {

@@ -30,6 +30,9 @@ void make_memory(struct memory *memory, size_t room, int read_only);
 /* Zeros that end at a page that may not be touched. They take memory only where they are written. */
 uint8_t *make_zeros(size_t bytes);
 
+/* Makes such memory read-only, from its first byte on. */
+void forbid_writing(uint8_t *bytes, size_t len);
+
 /* Puts bytes into read-only memory and lends them. */
 const uint8_t *lend_bytes(struct memory *memory, enum edge edge, const uint8_t *bytes, size_t len);
 

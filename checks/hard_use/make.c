@@ -1,6 +1,8 @@
+#define _GNU_SOURCE
 #include "make.h"
 
 #include "../../examples/films.h"
+#include "lent.h"
 
 #include <string.h>
 
@@ -404,25 +406,48 @@ void make_any_film(struct made *made, struct chance *chance)
         damage(made, chance);
 }
 
-void make_clips(struct made *made, struct chance *chance)
+size_t put_song_header(uint8_t *film)
 {
     static struct song song;
-    static uint8_t payload[0x400];
-    size_t left = 1 + below(chance, 3);
     struct usm_chunk chunks[SONG_CHUNKS];
 
     make_song(&song, 0);
     usm_list(song.stored.bytes, song.stored.len, USM_READ_WITH_AUDIO, chunks, SONG_CHUNKS);
-    song.stored.len = chunks[0].start;
+    memcpy(film, song.stored.bytes, chunks[0].start);
+    return chunks[0].start;
+}
+
+void make_clips(struct made *made, struct chance *chance)
+{
+    static struct film film;
+    static uint8_t payload[0x400];
+    size_t left = 1 + below(chance, 3);
+
+    film.len = put_song_header(film.bytes);
     for (; left > 0; left--) {
         int video = once_in(chance, 4);
         size_t len = (video ? 0x220 : 0x130) + below(chance, 0x40);
 
         fill_by_chance(chance, payload, len);
-        add_chunk(&song.stored, video ? "@SFV" : "@SFA", once_in(chance, 6) ? 1 : 0, payload, len);
+        add_chunk(&film, video ? "@SFV" : "@SFA", once_in(chance, 6) ? 1 : 0, payload, len);
     }
     made->len = made->count = 0;
-    add_bytes(made, song.stored.bytes, song.stored.len);
+    add_bytes(made, film.bytes, film.len);
+}
+
+uint8_t *make_longest(size_t apart)
+{
+    uint8_t *film = make_zeros(USM_CONTAINER_BYTES);
+    size_t at, next, turn = 0;
+
+    for (at = put_song_header(film); at < USM_CONTAINER_BYTES; at = next) {
+        next = USM_CONTAINER_BYTES - at < 2 * apart ? USM_CONTAINER_BYTES : at + apart;
+        put_text(film + at, turn++ % 2 ? "@SFA" : "@SFV");
+        put32(film + at + 4, next - at - 8);
+        put16(film + at + 8, 24);
+    }
+    forbid_writing(film, USM_CONTAINER_BYTES);
+    return film;
 }
 
 /* A number that means yes or no to C. */

@@ -36,6 +36,13 @@ void damage(struct made *made, struct chance *chance);
 /* Makes a film: whole, damaged or no film at all. */
 void make_any_film(struct made *made, struct chance *chance);
 
+/* Puts the header of the song, a film with ADX audio, and gives its bytes. */
+size_t put_song_header(uint8_t *film);
+
+/* Makes the longest film, read-only: chunks so many bytes apart, video and ADX audio by turns, the last one up to its
+ * end. It ends at a page that may not be touched. */
+uint8_t *make_longest(size_t apart);
+
 /* Makes a film of a few payloads around the lengths at which they show more of a key. */
 void make_clips(struct made *made, struct chance *chance);
 

@@ -289,17 +289,10 @@ static size_t place_by_chance(struct chance *chance, size_t total)
 /* A film's header with audio or without. Gives its bytes. */
 static size_t put_header(uint8_t *film, int audio)
 {
-    static struct song song;
-    struct usm_chunk chunks[SONG_CHUNKS];
-
-    if (!audio) {
-        make_f(film);
-        return F_VIDEO;
-    }
-    make_song(&song, 0);
-    usm_list(song.stored.bytes, song.stored.len, USM_READ_WITH_AUDIO, chunks, SONG_CHUNKS);
-    memcpy(film, song.stored.bytes, chunks[0].start);
-    return chunks[0].start;
+    if (audio)
+        return put_song_header(film);
+    make_f(film);
+    return F_VIDEO;
 }
 
 /* A step at which 45 bytes or more are left. A listing says the same of a film in which the window stands behind a

@@ -15,7 +15,6 @@
 #include <inttypes.h>
 #include <signal.h>
 #include <stdio.h>
-#include <sys/mman.h>
 
 #define LONGEST ((size_t)USM_CONTAINER_BYTES)
 
@@ -133,7 +132,7 @@ static void try_longest(size_t block_size, size_t expected)
     memset(whole + F_VIDEO, 0, F_BYTES - F_VIDEO);
     for (at = F_VIDEO; block_size != 0 && at + 8 <= LONGEST; at += 8 + block_size)
         put32(whole + at + 4, block_size);
-    expect(mprotect(whole, LONGEST, PROT_READ) == 0, "not made read-only");
+    forbid_writing(whole, LONGEST);
     began = seconds_by(CLOCK_PROCESS_CPUTIME_ID);
     reply = usm_salvage(whole, LONGEST);
     printf("salvages: 1 GiB, %zu chunks %zu bytes apart: kept %zu, cause %d, %.2f s of the processor\n",

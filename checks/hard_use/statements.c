@@ -16,7 +16,6 @@
 #include <inttypes.h>
 #include <signal.h>
 #include <stdio.h>
-#include <sys/mman.h>
 
 #define LONGEST ((size_t)USM_CONTAINER_BYTES)
 
@@ -198,28 +197,6 @@ static void show_catches(void)
 }
 
 /* ---- the longest films */
-
-/* The song's header, then chunks so many bytes apart, video and ADX audio by turns, the last one up to the end of the
- * longest film. */
-static uint8_t *make_longest(size_t apart)
-{
-    static struct song song;
-    struct usm_chunk chunks[SONG_CHUNKS];
-    uint8_t *film = make_zeros(LONGEST);
-    size_t at, next, turn = 0;
-
-    make_song(&song, 0);
-    usm_list(song.stored.bytes, song.stored.len, USM_READ_WITH_AUDIO, chunks, SONG_CHUNKS);
-    memcpy(film, song.stored.bytes, chunks[0].start);
-    for (at = chunks[0].start; at < LONGEST; at = next) {
-        next = LONGEST - at < 2 * apart ? LONGEST : at + apart;
-        put_text(film + at, turn++ % 2 ? "@SFA" : "@SFV");
-        put32(film + at + 4, next - at - 8);
-        put16(film + at + 8, 24);
-    }
-    expect(mprotect(film, LONGEST, PROT_READ) == 0, "not made read-only");
-    return film;
-}
 
 /* Times usm_list into a list that is lent and warm, and usm_statement for 16 tenants, in turns: the best of some. */
 static void time_longest(size_t apart, int runs)
