@@ -6,11 +6,11 @@ import csv
 import io
 import sqlite3
 from collections.abc import Iterable
-from typing import NamedTuple, Optional, TextIO
+from typing import IO, NamedTuple, Optional
 
 from usm._books import Books, Line, Unbilled
 from usm._holdings import Holding, HoldingsLike, holdings
-from usm._scan import scan
+from usm._scan import LocalFile, scan
 
 
 class Bill(NamedTuple):
@@ -65,7 +65,7 @@ def bill(given: HoldingsLike) -> Bill:
     try:
         books.create()
         for film, keys in keys_by_film(held).items():
-            books.keep(film, scan(film, keys))
+            books.keep(film, scan(LocalFile(film), keys))
         books.hold(held)
         return Bill(list(books.lines()), list(books.unbilled()))
     finally:
@@ -80,7 +80,7 @@ def keys_by_film(held: Iterable[Holding]) -> dict[str, list[Optional[int]]]:
     return {film: list(keys) for film, keys in films.items()}
 
 
-def write_csv(lines: Iterable[Line], file: TextIO) -> None:
+def write_csv(lines: Iterable[Line], file: IO[str]) -> None:
     """Writes lines as `usm bill --csv` does."""
     writer = csv.writer(file, lineterminator="\r\n")
     writer.writerow(Line._fields)

@@ -73,19 +73,20 @@ class Unbilled(NamedTuple):
 
 
 class Books:
-    """A house's books on a connection of sqlite3 or of psycopg2."""
+    """A house's books on a connection of sqlite3. What another database has in other words is in a class of its own."""
 
-    def __init__(self, connection: Any, bytes_type: str = "BLOB", mark: str = "?") -> None:
+    bytes_type = "BLOB"
+    mark = "?"
+
+    def __init__(self, connection: Any) -> None:
         self._connection = connection
-        self._bytes_type = bytes_type
-        self._mark = mark
 
     def _run(self, text: str, values: Optional[tuple[Any, ...]] = None) -> Any:
         cursor = self._connection.cursor()
         if values is None:
-            cursor.execute(text.replace("{bytes}", self._bytes_type))
+            cursor.execute(text.replace("{bytes}", self.bytes_type))
         else:
-            cursor.execute(text.replace("?", self._mark), values)
+            cursor.execute(text.replace("?", self.mark), values)
         return cursor
 
     def create(self) -> None:
@@ -134,10 +135,17 @@ class Books:
         rows = (
             (line, stored(tenant), _stored_film(film), *_stored_key(key)) for tenant, key, film, line in holdings
         )
-        text = "INSERT INTO holding (line, tenant, film, given, key) VALUES (?, ?, ?, ?, ?)"
-        self._connection.cursor().executemany(text.replace("?", self._mark), rows)
+        self._insert_holdings(rows)
         for text in _ENTRIES:
             self._run(text)
+        self._prepare_lines()
+
+    def _insert_holdings(self, rows: Iterable[tuple[int, int, bytes, int, int]]) -> None:
+        text = "INSERT INTO holding (line, tenant, film, given, key) VALUES (?, ?, ?, ?, ?)"
+        self._connection.cursor().executemany(text, rows)
+
+    def _prepare_lines(self) -> None:
+        """What is done before the lines are computed: SQLite needs nothing."""
 
     def lines(self) -> Iterator[Line]:
         """The bill's lines, by rising tenant, then by the digests."""

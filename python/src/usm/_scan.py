@@ -4,7 +4,8 @@ from __future__ import annotations
 
 import os
 from collections.abc import Collection
-from typing import NamedTuple, Optional
+from contextlib import AbstractContextManager, nullcontext
+from typing import NamedTuple, Optional, Protocol
 
 from usm._digest import Digests, digests
 from usm._film import open
@@ -32,18 +33,38 @@ class Scan(NamedTuple):
     trouble: Optional[str] = None
 
 
-def identity(path: str) -> Identity:
-    found = os.stat(path)
-    return Identity(found.st_size, found.st_mtime_ns)
+class Place(Protocol):
+    """Where a film stands."""
+
+    def identity(self) -> Identity:
+        """What it is now."""
+
+    def film(self) -> AbstractContextManager[FilmLike]:
+        """The film, to be opened."""
 
 
-def scan(path: str, keys: Collection[Optional[int]]) -> Scan:
-    """Reads the film at a path once, whatever the number of keys."""
+class LocalFile:
+    """A film at a path of this machine."""
+
+    def __init__(self, path: str) -> None:
+        self._path = path
+
+    def identity(self) -> Identity:
+        found = os.stat(self._path)
+        return Identity(found.st_size, found.st_mtime_ns)
+
+    def film(self) -> AbstractContextManager[FilmLike]:
+        return nullcontext(self._path)
+
+
+def scan(place: Place, keys: Collection[Optional[int]]) -> Scan:
+    """Reads a film once, whatever the number of keys."""
     seen = None
     try:
-        seen = identity(path)
-        streams = streams_under(path, keys)
-        if identity(path) != seen:
+        seen = place.identity()
+        with place.film() as film:
+            streams = streams_under(film, keys)
+        if place.identity() != seen:
             return Scan(None, {}, "it changed while it was read")
         return Scan(seen, streams)
     except Refusal as refusal:
