@@ -7,6 +7,7 @@ from __future__ import annotations
 
 import os
 import random
+import resource
 import shutil
 import sys
 import time
@@ -57,8 +58,8 @@ def scans(folder: Path) -> Iterator[str]:
 
 def bills(folder: Path) -> Iterator[str]:
     """Bills of houses whose films are known: five holdings a film, by a thousand tenants."""
-    yield "holdings  films  s to make the bill  lines"
-    for count in (1_000, 10_000, 100_000):
+    yield "holdings   films  s to make the bill    lines  MiB at most so far"
+    for count in (1_000, 10_000, 100_000, 1_000_000):
         kept = folder / "house.sqlite"
         database = Database(str(kept))
         database.create()
@@ -68,7 +69,8 @@ def bills(folder: Path) -> Iterator[str]:
         held = [Holding(chance.randrange(1000), KEYS[line % 3], f"/{line % films}", line) for line in range(count)]
         lines: list[usm.Line] = []
         seconds = cost(lambda: lines.extend(bill(database, held)))
-        yield f"{count:8}  {films:5}  {seconds:18.3f}  {len(lines)}"
+        most = resource.getrusage(resource.RUSAGE_SELF).ru_maxrss / 1024
+        yield f"{count:8}  {films:6}  {seconds:18.3f}  {len(lines):7}  {most:18.0f}"
         kept.unlink()
 
 

@@ -208,8 +208,7 @@ def test_a_long_film_takes_the_memory_of_a_payload(tmp_path: Path) -> None:
     told = subprocess.run([sys.executable, "-c", MEMORY, path], capture_output=True, text=True, check=True).stdout
     kibibytes, bits = map(int, told.split())
     assert bits == 0x00FFFF0FFFFFFFFF
-    # The skeleton by which the bits are found has two pages for each chunk; the film has 1,763 chunks.
-    assert kibibytes < 20_000
+    assert kibibytes < 4096
 
 
 def test_a_pipe_is_not_waited_for(tmp_path: Path) -> None:

@@ -28,14 +28,18 @@ _TABLES = (
 _HOLDING = """CREATE TEMPORARY TABLE holding (line BIGINT NOT NULL, tenant BIGINT NOT NULL, film {bytes} NOT NULL,
     given SMALLINT NOT NULL, key BIGINT NOT NULL)"""
 _ENTRIES = (
-    """CREATE TEMPORARY TABLE pair AS SELECT ROW_NUMBER() OVER (ORDER BY film, given, key) AS entry, film, given, key
+    """CREATE TEMPORARY TABLE pair (entry BIGINT NOT NULL, film {bytes} NOT NULL, given SMALLINT NOT NULL,
+        key BIGINT NOT NULL, PRIMARY KEY (film, given, key))""",
+    """INSERT INTO pair SELECT ROW_NUMBER() OVER (ORDER BY film, given, key), film, given, key
         FROM (SELECT DISTINCT film, given, key FROM holding) AS pairs""",
-    """CREATE TEMPORARY TABLE streams AS SELECT entry AS streams, video_bytes, audio_bytes, video_sha256, audio_sha256
+    """CREATE TEMPORARY TABLE streams (streams BIGINT PRIMARY KEY, video_bytes BIGINT NOT NULL, audio_bytes BIGINT NOT NULL,
+        video_sha256 {bytes} NOT NULL, audio_sha256 {bytes} NOT NULL)""",
+    """INSERT INTO streams SELECT entry, video_bytes, audio_bytes, video_sha256, audio_sha256
         FROM pair JOIN usm_streams USING (film, given, key)""",
-    """CREATE TEMPORARY TABLE entry AS SELECT pair.entry, streams.streams
-        FROM pair LEFT JOIN streams ON streams.streams = pair.entry""",
-    """CREATE TEMPORARY TABLE held AS SELECT DISTINCT holding.tenant, pair.entry
-        FROM holding JOIN pair USING (film, given, key)""",
+    """CREATE TEMPORARY TABLE entry (entry BIGINT PRIMARY KEY, streams BIGINT)""",
+    """INSERT INTO entry SELECT pair.entry, streams.streams FROM pair LEFT JOIN streams ON streams.streams = pair.entry""",
+    """CREATE TEMPORARY TABLE held (tenant BIGINT NOT NULL, entry BIGINT NOT NULL, PRIMARY KEY (entry, tenant))""",
+    """INSERT INTO held SELECT DISTINCT holding.tenant, pair.entry FROM holding JOIN pair USING (film, given, key)""",
 )
 _LINES = f"""SELECT tenant, lowest, video_bytes, audio_bytes, share, video_sha256, audio_sha256
     FROM ({_BILL}) AS bill WHERE way = 1 ORDER BY tenant, copy"""

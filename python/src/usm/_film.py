@@ -3,11 +3,10 @@
 from __future__ import annotations
 
 import io
-import mmap
 from collections.abc import Iterator
-from typing import Any, BinaryIO, Callable, NamedTuple, Optional, SupportsIndex
+from typing import Any, BinaryIO, NamedTuple, Optional, SupportsIndex
 
-from usm._lent import Buffer, key_number, lend, lend_writable
+from usm._lent import key_number, lend, lend_writable
 from usm._native import lib
 from usm._reading import DEFAULT, Reading
 from usm._refusal import accepted
@@ -25,9 +24,6 @@ _KINDS = {
 }
 _MASKS = {lib.USM_MASK_NONE: None, lib.USM_MASK_VIDEO: "video", lib.USM_MASK_AUDIO: "audio"}
 _MASK_NUMBERS = {word: number for number, word in _MASKS.items()}
-
-# What is done with a window: with the bytes of the film from a place on.
-Keep = Callable[[int, Buffer], None]
 
 
 class Chunk(NamedTuple):
@@ -134,11 +130,7 @@ class Film:
         3168 end 0
         3232 end 0
         """
-        return self._walk(lambda place, window: None)
-
-    def _walk(self, keep: Keep) -> Iterator[Chunk]:
-        """The chunks. The windows by which they are found are kept."""
-        walk = _Walk(self._source, self._lent_reading, self._audio, keep)
+        walk = _Walk(self._source, self._lent_reading, self._audio)
         place = self._chunks
         while True:
             step = accepted(walk.step(place))
@@ -164,7 +156,7 @@ class Film:
 
     def _blocks(self) -> Iterator[int]:
         """Where the blocks of the header have their contents: they are framed as chunks are."""
-        walk = _Walk(self._source, Reading(audio="none").lent(), (0, 0, 0), lambda place, window: None)
+        walk = _Walk(self._source, Reading(audio="none").lent(), (0, 0, 0))
         place = 0
         while place < self._chunks:
             step = walk.step(place)
@@ -182,21 +174,7 @@ class Film:
         ...     print(f"{film.key_bits:016X}")
         00FFFF0FFFFFFFFF
         """
-        with self._skeleton() as bones, lend(bones) as film:
-            return int(accepted(lib.usm_key_bits(film, self.size, self._lent_reading)).bits)
-
-    def _skeleton(self) -> mmap.mmap:
-        """The film with its header and the heads of its chunks, and zeros in place of the payloads. It has the chunks of
-        the film, since a step looks at nothing else. Pages that are not written take no memory."""
-        bones = mmap.mmap(-1, self.size, flags=mmap.MAP_PRIVATE | mmap.MAP_ANONYMOUS)
-
-        def keep(place: int, window: Buffer) -> None:
-            bones[place : place + len(window)] = window
-
-        keep(0, self._beginning)
-        for _ in self._walk(keep):
-            pass
-        return bones
+        return max((lib.usm_payload_bits(_MASK_NUMBERS[chunk.mask], chunk.length) for chunk in self.chunks()), default=0)
 
     def payloads(self, key: Optional[SupportsIndex] = None) -> Iterator[tuple[Chunk, memoryview]]:
         """Each chunk with a payload, and the payload: clear under the key, or as it is stored without one. The payload is
@@ -257,13 +235,12 @@ class Film:
 
 
 class _Walk:
-    """Steps over a film by windows, which are kept where they are asked for."""
+    """Steps over a film by windows."""
 
-    def __init__(self, bytes_of: Source, lent_reading: Any, audio: Any, keep: Keep) -> None:
+    def __init__(self, bytes_of: Source, lent_reading: Any, audio: Any) -> None:
         self._source = bytes_of
         self._reading = lent_reading
         self._audio = audio
-        self._keep = keep
         self._start = 0
         self._window = memoryview(b"")
 
@@ -286,7 +263,6 @@ class _Walk:
         self._start = place
         self._window = memoryview(bytearray(min(length, self._source.size - place)))
         self._source.read_into(place, self._window)
-        self._keep(place, self._window)
 
 
 def _open(bytes_of: Source, lent_reading: Any) -> tuple[bytearray, Any]:

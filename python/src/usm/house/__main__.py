@@ -4,6 +4,7 @@ from __future__ import annotations
 
 import argparse
 import contextlib
+import functools
 import os
 import shutil
 import sys
@@ -44,18 +45,23 @@ def arguments(words: list[str]) -> Arguments:
         prog="python3 -m usm.house",
         description="Makes the bill of a house as `usm bill --csv` does, with the workers of a Dask cluster.",
     )
-    parser.add_argument("holdings", metavar="HOLDINGS", help="who holds which film under which key, a CSV file as `usm bill` takes it")
-    parser.add_argument("--scheduler", metavar="ADDRESS", help="the cluster's scheduler; without it workers are started on this machine")
-    parser.add_argument("--database", metavar="URL", help="postgresql://.. or a file of SQLite, which keeps what is found; without it a temporary file")
-    parser.add_argument("--workers", metavar="N", type=int, default=os.cpu_count(), help="how many workers are started on this machine")
+    for word, value, default, said in (
+        ("holdings", "HOLDINGS", None, "who holds which film under which key, a CSV file as `usm bill` takes it"),
+        ("--scheduler", "ADDRESS", None, "the cluster's scheduler; without it workers are started on this machine"),
+        ("--database", "URL", None, "postgresql://.. or a file of SQLite, which keeps what is found; else a temporary file"),
+        ("--workers", "N", os.cpu_count(), "how many workers are started on this machine; else one for each processor"),
+    ):
+        parser.add_argument(word, metavar=value, default=default, help=said, type=int if value == "N" else str)
     return Arguments(**vars(parser.parse_args(words)))
 
 
 def read_holdings(path: str) -> list[Holding]:
     """The holdings, with films as every worker finds them."""
     folder = os.path.dirname(os.path.abspath(path))
+    # A film is resolved once, and its path kept once, however many hold it.
+    resolve = functools.lru_cache(maxsize=None)(lambda film: resolved(film, folder))
     with open(path, "rb") as file:
-        return [holding._replace(film=resolved(holding.film, folder)) for holding in in_csv(file, "")]
+        return [holding._replace(film=resolve(holding.film)) for holding in in_csv(file, "")]
 
 
 @contextlib.contextmanager
@@ -124,7 +130,9 @@ def write_bill(books: Books, held: list[Holding], lines: IO[str], troubles: IO[s
 
 def bill(kept: Database, held: list[Holding]) -> int:
     """Makes the bill. It goes to standard output when it is whole, for a database that goes away is asked again."""
-    with tempfile.TemporaryFile("w+", newline="") as lines, tempfile.TemporaryFile("w+", errors="surrogateescape") as troubles:
+    with contextlib.ExitStack() as files:
+        lines = files.enter_context(tempfile.TemporaryFile("w+", newline=""))
+        troubles = files.enter_context(tempfile.TemporaryFile("w+", errors="surrogateescape"))
         unbilled = kept.do(lambda books: write_bill(books, held, lines, troubles))
         for file, to in ((troubles, sys.stderr), (lines, sys.stdout)):
             file.seek(0)
