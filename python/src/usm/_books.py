@@ -8,6 +8,7 @@ from __future__ import annotations
 
 import os
 from collections.abc import Iterable, Iterator
+from contextlib import closing
 from importlib import resources
 from typing import Any, NamedTuple, Optional
 
@@ -93,6 +94,10 @@ class Books:
             cursor.execute(text.replace("?", self.mark), values)
         return cursor
 
+    def _ask(self, text: str) -> Any:
+        """A cursor on rows that may be too many to be held at once."""
+        return self._run(text)
+
     def create(self) -> None:
         """Makes the tables that stay, where they are not there yet."""
         for text in _TABLES:
@@ -153,13 +158,13 @@ class Books:
 
     def lines(self) -> Iterator[Line]:
         """The bill's lines, by rising tenant, then by the digests."""
-        for tenant, lowest, video_bytes, audio_bytes, share, video, audio in _rows(self._run(_LINES)):
+        for tenant, lowest, video_bytes, audio_bytes, share, video, audio in _rows(self._ask(_LINES)):
             digests = (bytes(digest).hex() for digest in (video, audio))
             yield Line(number(tenant), number(lowest), video_bytes, audio_bytes, share, *digests)
 
     def unbilled(self) -> Iterator[Unbilled]:
         """The holdings that are not billed, by their lines."""
-        for line, tenant, film, trouble in _rows(self._run(_UNBILLED)):
+        for line, tenant, film, trouble in _rows(self._ask(_UNBILLED)):
             yield Unbilled(line, number(tenant), os.fsdecode(bytes(film)), trouble or "it was not read")
 
     def close(self) -> None:
@@ -167,11 +172,11 @@ class Books:
 
 
 def _rows(cursor: Any) -> Iterator[Any]:
-    while True:
+    with closing(cursor):
         rows = cursor.fetchmany(_ROWS)
-        if not rows:
-            return
-        yield from rows
+        while rows:
+            yield from rows
+            rows = cursor.fetchmany(_ROWS)
 
 
 def stored(unsigned: int) -> int:

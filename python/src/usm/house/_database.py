@@ -29,6 +29,12 @@ class PostgresBooks(Books):
         self._run("SELECT pg_advisory_xact_lock(7583021)")
         super().create()
 
+    def _ask(self, text: str) -> Any:
+        # Only a cursor with a name leaves the rows at the server until they are fetched.
+        cursor = self._connection.cursor(name="asked")
+        cursor.execute(text)
+        return cursor
+
     def _insert_holdings(self, rows: Iterable[tuple[int, int, bytes, int, int]]) -> None:
         with tempfile.TemporaryFile("w+") as file:
             for line, tenant, film, given, key in rows:
