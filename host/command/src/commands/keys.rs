@@ -7,6 +7,7 @@ use serde::Serialize;
 use usm::{ChunkKind, Reader, Reading};
 
 use crate::options::key::{self, Key};
+use crate::output::digits::{PLACES, bits_that_count, digit, has, marks};
 use crate::output::json::{About, Kind};
 use crate::output::text::Shown;
 use crate::output::{Error, Status};
@@ -36,8 +37,6 @@ pub struct Keys {
     #[command(flatten)]
     options: RunOptions,
 }
-
-const PLACES: usize = 16;
 
 impl Keys {
     pub fn run(self) -> Status {
@@ -147,14 +146,13 @@ impl Answer {
             same_key: self.first == self.second,
             same_streams: self.same_streams(),
             differing_digits: (0..PLACES).filter(|&place| self.has_other_digit(place)).collect(),
-            counting_digits: (0..PLACES).filter(|&place| counts(place)).collect(),
+            counting_digits: (0..PLACES).filter(|&place| has(bits_that_count(), place)).collect(),
         }
     }
 
     fn print(&self, output: &mut Output) -> Result<(), Error> {
-        let row = |mark: &dyn Fn(usize) -> char| (0..PLACES).map(mark).collect::<String>();
-        let counts = row(&|place| if counts(place) { '+' } else { '-' });
-        let differs = row(&|place| if self.has_other_digit(place) { '^' } else { '.' });
+        let counts = marks(|place| if has(bits_that_count(), place) { '+' } else { '-' });
+        let differs = marks(|place| if self.has_other_digit(place) { '^' } else { '.' });
         print_to!(output, "first key   {:016X}\n", self.first);
         print_to!(output, "second key  {:016X}\n", self.second);
         print_to!(output, "counts      {counts}  + can touch a picture and ADX sound, - never does\n");
@@ -185,16 +183,6 @@ struct Object {
     /// Digits by their places from the left, from 0.
     differing_digits: Vec<usize>,
     counting_digits: Vec<usize>,
-}
-
-/// The digit at a place from the left.
-fn digit(key: u64, place: usize) -> u64 {
-    key >> (4 * (PLACES - 1 - place)) & 0xF
-}
-
-/// Whether a digit can touch anything: whether one of its bits changes the tables of a key.
-fn counts(place: usize) -> bool {
-    (0..4).any(|bit| usm::key_table(1 << (4 * (PLACES - 1 - place) + bit)) != usm::key_table(0))
 }
 
 // The words of the program two_keys.

@@ -1,6 +1,7 @@
 //! What a run prints: standard output, every write of which is checked, and messages on standard error.
 
 pub mod csv;
+pub mod digits;
 pub mod error;
 pub mod json;
 pub mod text;

@@ -10,8 +10,9 @@ use super::books::{Books, Summary, Total, Unbilled};
 use super::copies::{Copy, Film, Key, OtherCopy, Share};
 use super::date;
 use super::text::{counted, grouped};
-use super::why::{self, PLACES, Why, has};
+use super::why::{self, Why};
 use crate::output::Error;
+use crate::output::digits::{PLACES, digit, has};
 use crate::output::text::{Hex, Shown};
 
 const STYLE: &str = include_str!("page.css");
@@ -309,7 +310,7 @@ impl<W: Write> Page<'_, W> {
                         (false, true) => " class=\"never differs\"",
                     };
                     let digit = match digits {
-                        Digits::Shown => format!("{:X}", why::digit(key, place)),
+                        Digits::Shown => format!("{:X}", digit(key, place)),
                         Digits::Hidden => String::new(),
                     };
                     put!(self, "<i{class}>{digit}</i>");

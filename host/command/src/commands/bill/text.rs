@@ -2,7 +2,8 @@
 
 use super::books::{Amount, Books, Summary, Total, Unbilled};
 use super::copies::{self, Copy, Film, OtherCopy};
-use super::why::{self, PLACES, Why, has, marks};
+use super::why::{self, Why};
+use crate::output::digits::{PLACES, has, marks};
 use crate::output::text::{Hex, Shown};
 use crate::output::{Error, Output, print_to};
 

@@ -1,9 +1,7 @@
 //! Why the holders of a copy share it: in words, and by the sixteen digits of their keys.
 
 use super::copies::{Copy, Film};
-
-/// The digits of a key.
-pub const PLACES: usize = 16;
+use crate::output::digits::{PLACES, bits_that_count, has};
 
 /// Why all who hold a film under these keys have one copy of it.
 #[derive(Clone, Copy, PartialEq, Eq, Debug)]
@@ -67,29 +65,9 @@ pub fn sentence(copy: &Copy) -> String {
     }
 }
 
-/// The bits of a key that change its tables. The others count for no film.
-pub fn bits_that_count() -> u64 {
-    (0..64).map(|bit| 1 << bit).filter(|&key| usm::key_table(key) != usm::key_table(0)).sum()
-}
-
-/// The digit at a place from the left.
-pub fn digit(key: u64, place: usize) -> u64 {
-    key >> (4 * (PLACES - 1 - place)) & 0xF
-}
-
-/// Whether the digit at a place from the left has a bit of these.
-pub fn has(bits: u64, place: usize) -> bool {
-    digit(bits, place) != 0
-}
-
 /// How many digits have a bit of these.
 pub fn how_many(bits: u64) -> usize {
     (0..PLACES).filter(|&place| has(bits, place)).count()
-}
-
-/// Sixteen marks, one for each digit.
-pub fn marks(mark: impl Fn(usize) -> char) -> String {
-    (0..PLACES).map(mark).collect()
 }
 
 const ORDINALS: [&str; PLACES] = [
@@ -126,7 +104,7 @@ mod tests {
     use std::path::PathBuf;
 
     use super::super::copies::{Film, Key};
-    use super::{Why, bits_that_count, digit, in_digits, marks};
+    use super::{Why, bits_that_count, in_digits};
 
     fn film(bits: u64, keys: &[Option<u64>]) -> Film {
         let keys = keys.iter().map(|&key| Key { key, tenants: vec![1] }).collect();
@@ -136,7 +114,6 @@ mod tests {
     #[test]
     fn reasons() {
         let all = bits_that_count();
-        assert_eq!(all, 0x00FF_FF0F_FFFF_FFFF);
         assert_eq!(Why::of(&film(all, &[Some(1)])), Why::OneKey);
         assert_eq!(Why::of(&film(all, &[Some(1), Some(0xFF00_0000_0000_0001)])), Why::KeysAgree);
         assert_eq!(Why::of(&film(0xFF, &[Some(1), Some(0x0100_0000_0000_0001)])), Why::KeysAgree);
@@ -145,13 +122,8 @@ mod tests {
     }
 
     #[test]
-    fn digits() {
-        assert_eq!(marks(|place| if super::has(0x00FF_FF0F_FFFF_FFFF, place) { '+' } else { '-' }), "--++++-+++++++++");
+    fn digits_in_words() {
         assert_eq!(in_digits(0xFF00_00F0_0000_0000), "the first, the second and the seventh digit");
         assert_eq!(in_digits(1), "the sixteenth digit");
-        assert_eq!(
-            (0..16).map(|place| digit(0x0123_4567_89AB_CDEF, place)).collect::<Vec<_>>(),
-            (0..16).collect::<Vec<_>>()
-        );
     }
 }
