@@ -3,7 +3,7 @@
 agree byte for byte share a copy. Nothing here is shared with the crates. Writes what the gate replays:
 
     checks/records/statements.py FOLDER            stdin and stdout of crates/gate_statements
-    checks/records/statements.py --answer FOLDER   stdin of crates/who_pays, the film of docs/ANSWER.md
+    checks/records/statements.py --answer FOLDER   stdin of crates/who_pays
 """
 import os
 import random
@@ -31,8 +31,8 @@ def header(audio, codec):
 
 
 def clear(chunk, codec, key):
-    """The payload of a chunk under a key."""
-    if chunk.data_type != 0:
+    """The payload of a chunk under a key, or as it is stored without one."""
+    if key is None or chunk.data_type != 0:
         return chunk.payload
     if chunk.letters == VIDEO:
         return usm.clear_video(key, chunk.payload)
@@ -151,10 +151,15 @@ def write_answer(folder):
         f.write(film)
 
 
-match sys.argv[1:]:
-    case ["--answer", folder]:
-        write_answer(folder)
-    case [folder]:
-        write_replay(folder)
-    case _:
-        sys.exit("usage: checks/records/statements.py [--answer] FOLDER")
+def main():
+    match sys.argv[1:]:
+        case ["--answer", folder]:
+            write_answer(folder)
+        case [folder]:
+            write_replay(folder)
+        case _:
+            sys.exit("usage: checks/records/statements.py [--answer] FOLDER")
+
+
+if __name__ == "__main__":
+    main()
