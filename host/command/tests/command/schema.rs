@@ -8,6 +8,14 @@ use crate::support::{Folder, KEY, example};
 
 const SCHEMA: &str = include_str!(concat!(env!("CARGO_MANIFEST_DIR"), "/../../docs/JSON.md"));
 
+/// One film that two keys make one copy and a third another, and one that is refused.
+const HOLDINGS: &str = "tenant,name,key,film,title
+7,North,0123456789ABCDEF,song.usm,Lark
+3,East,FF23456789ABCDEF,song.usm,Lark
+7,North,1,song.usm,Lark
+3,East,,cut.usm,Wren
+";
+
 /// The examples of the document: a line of shell, and the objects that it writes.
 fn examples() -> Vec<(&'static str, Vec<&'static str>)> {
     let mut examples: Vec<(&str, Vec<&str>)> = Vec::new();
@@ -45,6 +53,7 @@ fn folder() -> Folder {
     let folder = Folder::with_films();
     folder.write("old.usm", &example("old.usm"));
     folder.write("tenants.csv", format!("7,{KEY}\n3,FF23456789ABCDEF\n").as_bytes());
+    folder.write("holdings.csv", HOLDINGS.as_bytes());
     folder
 }
 
