@@ -12,7 +12,7 @@ HERE = Path(__file__).resolve().parent
 sys.path.insert(0, str(HERE))
 import libraries  # noqa: E402
 
-BILL = HERE.parent / "host" / "command" / "src" / "bill" / "bill.sql"
+BILL = HERE.parent / "host" / "command" / "src" / "commands" / "bill" / "bill.sql"
 
 
 class WithBill(build_py):

@@ -34,7 +34,7 @@ def test_the_types_are_for_checkers() -> None:
 
 
 def test_groups_and_shares_are_computed_by_the_text_of_the_command() -> None:
-    text = (REPOSITORY / "host" / "command" / "src" / "bill" / "bill.sql").read_text()
+    text = (REPOSITORY / "host" / "command" / "src" / "commands" / "bill" / "bill.sql").read_text()
     assert (PACKAGE / "bill.sql").read_text() == text
 
 
