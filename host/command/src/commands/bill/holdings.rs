@@ -102,6 +102,7 @@ struct Lines {
     file: BufReader<Box<dyn Read>>,
     number: u64,
     line: Vec<u8>,
+    delimiter: u8,
     csv: csv_core::Reader,
     /// The fields of a line without their quotation marks, one after the other, and where each ends.
     text: Vec<u8>,
@@ -114,6 +115,7 @@ impl Lines {
             file: BufReader::with_capacity(1 << 16, file),
             number: 0,
             line: Vec::new(),
+            delimiter: b',',
             csv: csv_core::Reader::new(),
             text: Vec::new(),
             ends: Vec::new(),
@@ -147,21 +149,27 @@ impl Lines {
             return Err("it is UTF-16: it has to be saved as CSV in UTF-8".to_string());
         }
         let count = |delimiter: u8| self.line.iter().filter(|&&byte| byte == delimiter).count();
-        let delimiter = if count(b';') > count(b',') { b';' } else { b',' };
-        self.csv = csv_core::ReaderBuilder::new().delimiter(delimiter).build();
+        self.delimiter = if count(b';') > count(b',') { b';' } else { b',' };
+        self.begin_anew();
         Columns::of(&self.fields()?)
+    }
+
+    fn begin_anew(&mut self) {
+        self.csv = csv_core::ReaderBuilder::new().delimiter(self.delimiter).build();
     }
 
     /// The fields of the line.
     fn fields(&mut self) -> Result<Vec<&[u8]>, String> {
-        if self.line.iter().filter(|&&byte| byte == b'"').count() % 2 != 0 {
-            return Err("a quotation mark is left open".to_string());
-        }
         self.line.push(b'\n');
         self.text.resize(self.line.len(), 0);
         self.ends.resize(self.line.len(), 0);
         self.csv.reset();
-        let (_, read, _, count) = self.csv.read_record(&self.line, &mut self.text, &mut self.ends);
+        let (result, read, _, count) = self.csv.read_record(&self.line, &mut self.text, &mut self.ends);
+        if result != csv_core::ReadRecordResult::Record && self.line != b"\n" {
+            // It waits for the rest of a quoted field, and would look for it in the next line.
+            self.begin_anew();
+            return Err("a quotation mark is left open".to_string());
+        }
         if read < self.line.len() {
             return Err("a carriage return stands in it; a line ends in LF or CR LF".to_string());
         }
@@ -280,6 +288,20 @@ mod tests {
         }
         assert!(heading(b"\xFF\xFEt\0").unwrap_err().contains("UTF-16"));
         assert!(heading(b"tenant,key,film\r1,2,a\r").unwrap_err().contains("carriage return"));
+    }
+
+    #[test]
+    fn an_open_quotation_mark_spoils_its_own_line_alone() {
+        for open in ["1\",,\"z", "\"a", "a,\"b\"\"", "\"\"\"", "x,\"\"\"y"] {
+            let text = format!("a,b,c\n{open}\n2,,a.usm\n");
+            let mut lines = Lines::new(Box::new(std::io::Cursor::new(text.into_bytes())));
+            lines.next().unwrap();
+            assert_eq!(lines.fields().unwrap(), [b"a", b"b", b"c"]);
+            lines.next().unwrap();
+            assert!(lines.fields().unwrap_err().contains("left open"), "{open}");
+            lines.next().unwrap();
+            assert_eq!(lines.fields().unwrap(), [&b"2"[..], b"", b"a.usm"], "{open}");
+        }
     }
 
     #[test]
