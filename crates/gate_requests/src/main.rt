@@ -1,4 +1,4 @@
-// Replays answers that `cases.py`, beside this crate, works out from the words of requests 8 and 14: reads films from
+// Replays answers that `checks/records/requests.py` works out from the words of requests 8 and 14: reads films from
 // standard input and writes what the profile, an index and jumps by it answer. README.md beside this crate has the format.
 mod answers;
 
