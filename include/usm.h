@@ -720,6 +720,14 @@ struct usm_list_reply usm_statement(const uint8_t *container, size_t len,
                                     struct usm_share *lines, size_t room);
 
 /*
+ * The same of a film that is known by the bits of a key that it shows and by the size of a copy, both streams together: a
+ * film that was read piece by piece, with all audio taken, gets the lines that usm_statement gives it (proved). Refusals, in
+ * this order: USM_BAD_TENANTS, USM_SHORT_LIST.
+ */
+struct usm_list_reply usm_statement_by(uint64_t bits, size_t size, const struct usm_tenant *tenants, size_t tenant_count,
+                                       struct usm_share *lines, size_t room);
+
+/*
  * The bits of a key that a film shows. Of the numbers it gives: USM_TOO_LONG, then those of the header and of the
  * chunks, with `refused_at`; what usm_extract refuses with that reading, and no other (USM_SHORT_OUTPUT apart).
  */
@@ -748,6 +756,49 @@ struct usm_key_bits_reply usm_key_bits(const uint8_t *container, size_t len, str
  * so a film that is read piece by piece needs no second reading. It needs 8 bytes of stack below its call.
  */
 uint64_t usm_payload_bits(uint8_t mask, size_t length);
+
+/* Of which stream a byte is. */
+#define USM_SAME_STREAMS 0
+#define USM_VIDEO_STREAM 1
+#define USM_AUDIO_STREAM 2
+
+/* Where two keys part. What has no meaning is 0. 40 bytes. */
+struct usm_apart_reply {
+    size_t refused_at;
+    size_t byte;   /* the first byte of the stream that differs, counted from 0 */
+    size_t chunk;  /* where the chunk starts that holds it */
+    size_t offset; /* where it stands in that chunk's payload */
+    uint8_t number;
+    uint8_t unknown_type;
+    uint8_t stream; /* USM_VIDEO_STREAM, USM_AUDIO_STREAM; USM_SAME_STREAMS where no byte differs, and beside a refusal */
+};
+
+/*
+ * The first byte at which the streams of a film differ under two keys: of what usm_extract leaves under the one and the
+ * other, all bytes of that stream before it are the same and it is not; where it is one of the audio, the video streams
+ * are the same; and where no byte is named, both streams are (proved). No stream is unpacked.
+ */
+struct usm_apart_reply usm_apart(const uint8_t *container, size_t len, struct usm_reading reading, uint64_t key,
+                                 uint64_t other);
+
+/*
+ * The first byte of one payload that usm_clear leaves different under two keys, or `length` where there is none (proved),
+ * by the mask and the length that its step gave. The first chunk of the video, or else of the audio, for which this is
+ * less than its length is the one that usm_apart names (proved), so a film can be read piece by piece.
+ */
+size_t usm_payload_apart(uint8_t mask, size_t length, uint64_t key, uint64_t other);
+
+/* Why two keys give the same streams of a film. */
+#define USM_DIFFERENT 0   /* they do not */
+#define USM_ONE_KEY 1     /* they are one key */
+#define USM_NEVER_COUNT 2 /* they differ in bits alone that change no film */
+#define USM_NOT_SHOWN 3   /* they differ in bits that count, and this film shows none of those */
+
+/*
+ * The reason, for a film that shows `bits` of a key (usm_key_bits, usm_payload_bits). It is USM_DIFFERENT exactly where
+ * usm_extract leaves other streams under the one key than under the other (proved).
+ */
+uint8_t usm_why(uint64_t bits, uint64_t key, uint64_t other);
 
 #ifdef __cplusplus
 }

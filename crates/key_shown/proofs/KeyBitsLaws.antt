@@ -23,6 +23,5 @@ module _ (container : List ℕ) (reading : Reading) where
 
   pub bits-told : (header : Header) (applied : Applied) (count video audio : ℕ) → surveyOf (filmOf container reading) ≡ survey.Film header applied count video audio
       → (adx : Bool) → adx ≡ isAdx (header .«audio_codec»)
-      → (bytes : ℕ) → bytes ≡ shownBy adx (walkFrom container applied (header .start) .chunks)
-      → (bits : ℕ) → bits ≡ bitsShown bytes → Shown bits ≡ keyBitsIn (filmOf container reading)
-  bits-told header applied count video audio s adx a bytes b bits e = rw (surveyed-film container reading header applied count video audio s, e, b, a)
+      → (bits : ℕ) → bits ≡ bitsShown (shownBy adx (walkFrom container applied (header .start) .chunks)) → Shown bits ≡ keyBitsIn (filmOf container reading)
+  bits-told header applied count video audio s adx a bits e = rw (surveyed-film container reading header applied count video audio s, e, a)

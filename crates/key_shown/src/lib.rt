@@ -1,11 +1,12 @@
-// What a film shows of a key, found by one walk over its chunks. It is said by the length of a sound clip that shows as much,
-// and by the bits of a key that such a clip shows.
+// What a film shows of a key, found by one walk over its chunks: the length of a sound clip that shows as much, and by that the
+// bits of a key.
 // Request 13. Ours: the Rust has nothing of the kind.
 ghost use mathlib.Core.Path.{_≡_};
 ghost use Prim.Native.Nat.{max};
 ghost use Rattle.walk.specs.Walks.{walkFrom};
 ghost use mathlib.Core.Bool.{cond};
 ghost use lib.Dec.{ltb};
+ghost use Rattle.clip.specs.Clips.{bitsShown};
 ghost use Rattle.film.specs.Films.{filmOf};
 ghost use Rattle.key_shown.specs.Shown.{shownAs, shownIn, shownBy};
 ghost use Rattle.key_shown.specs.KeyBits.{keyBitsIn, keyBitsReply};
@@ -91,7 +92,7 @@ fn shown_in(adx: bool, chunk: Chunk) -> usize
 
 // What the chunks from a place on show, those before a refusal where there is one. `adx` says whether the film's audio is
 // ADX, `reading` how the film is read, as `chunk::chunk_at` has it.
-pub fn shown_from(container: &[u8], place: usize, reading: Applied, adx: bool) -> usize
+fn shown_from(container: &[u8], place: usize, reading: Applied, adx: bool) -> usize
     ensures { λ r. ⌜ r ≡ shownBy adx (walkFrom (now (container .entry)) reading place .chunks) ⌝ }
 {
     let mut at = place;
@@ -113,6 +114,13 @@ pub fn shown_from(container: &[u8], place: usize, reading: Applied, adx: bool) -
     }
 }
 
+// The bits of a key that these chunks show.
+pub fn bits_from(container: &[u8], place: usize, reading: Applied, adx: bool) -> u64
+    ensures { λ r. ⌜ r ≡ bitsShown (shownBy adx (walkFrom (now (container .entry)) reading place .chunks)) ⌝ }
+{
+    clip::bits_shown(shown_from(container, place, reading, adx))
+}
+
 // The bits of a key that a film shows. Two keys that agree in them have the same two streams of it, and no other two do.
 pub fn key_bits(container: &[u8], reading: Reading) -> KeyBits
     ensures { λ r. ⌜ r ≡ keyBitsIn (filmOf (now (container .entry)) reading) ⌝ }
@@ -127,8 +135,7 @@ pub fn key_bits(container: &[u8], reading: Reading) -> KeyBits
         } => {
             let codec = header.audio_codec;
             let adx = unmasking::is_adx(codec);
-            let bytes = shown_from(container, header.start, applied, adx);
-            KeyBits::Shown(clip::bits_shown(bytes))
+            KeyBits::Shown(bits_from(container, header.start, applied, adx))
         }
         Surveyed::Refused(refusal) => KeyBits::Refused(refusal),
     }

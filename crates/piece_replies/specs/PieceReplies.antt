@@ -16,7 +16,7 @@ use Rattle.extract.specs.declared.Extracted.the-variants as extracted
 use Rattle.extract.specs.Extraction.{contentsOf}
 use Rattle.replies.specs.declared.FilmReply.{FilmReply}
 use Rattle.replies.specs.FilmReplies.{filmReply}
-use Rattle.pieces.specs.Pieces.{maskOf}
+use Rattle.chunk_mask.specs.ChunkMasks.{maskOf}
 use Rattle.pieces.specs.declared.Opened.{Opened}
 use Rattle.pieces.specs.declared.Opened.the-variants as opened
 use Rattle.piece_replies.specs.declared.StepReply.{StepReply}

@@ -42,7 +42,7 @@ fn chunk_reply(chunk: Chunk, codec: Codec) -> StepReply
     ensures { λ r. ⌜ r ≡ chunkReply codec chunk ⌝ }
 {
     let kind = chunk.kind;
-    let mask = pieces::mask_of(codec, kind, chunk.data_type);
+    let mask = chunk_mask::mask_of(codec, kind, chunk.data_type);
     StepReply {
         refused_at: 0,
         next: chunk.next,

@@ -43,7 +43,8 @@ use Rattle.extract.specs.Streams.{videoPart, audioPart}
 use Rattle.walk.specs.Walks.{Ending, clean, stopped, onto, walkFrom, joined}
 use Rattle.walk.proofs.WalkLaws.{walk-over, walk-found, walk-refused}
 use Rattle.pieces.specs.declared.Opened.the-variants.{More, Known}
-use Rattle.pieces.specs.Pieces.{tooLong, isOpen, settledAs, headerIn, filmStep, maskOf, clearOf, Learnt, Windows, Payloads}
+use Rattle.chunk_mask.specs.ChunkMasks.{maskOf}
+use Rattle.pieces.specs.Pieces.{tooLong, isOpen, settledAs, headerIn, filmStep, clearOf, Learnt, Windows, Payloads}
 
 -- ---- the header
 

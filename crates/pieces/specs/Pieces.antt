@@ -16,8 +16,6 @@ use Rattle.header.specs.declared.HeaderAnswer.the-variants.{Read, Refused}
 use Rattle.header.specs.Headers.{headerOf}
 use Rattle.laws_prefix.specs.Needs.{laidAt}
 use Rattle.chunk.specs.declared.Chunk.{Chunk}
-use Rattle.chunk.specs.declared.Kind.{Kind}
-use Rattle.chunk.specs.declared.Kind.the-variants.{Video, Audio, Other, End}
 use Rattle.chunk.specs.declared.ChunkStep.the-variants as step
 use Rattle.chunk.specs.declared.Stepped.{Stepped}
 use Rattle.chunk.specs.declared.Stepped.the-variants.{Step}
@@ -26,9 +24,8 @@ use Rattle.walk.specs.Walks.{Ending, clean, stopped, joined}
 use Rattle.codec.specs.declared.Codec.{Codec}
 use Rattle.unmasking.specs.declared.Key.{Key}
 use Rattle.unmasking.specs.declared.Key.the-variants as key
-use Rattle.unmasking.specs.declared.Mask.{Mask}
-use Rattle.unmasking.specs.declared.Mask.the-variants.{Clear}
-use Rattle.unmasking.specs.Unmasking.{videoMask, audioMask, clearedBy}
+use Rattle.unmasking.specs.Unmasking.{clearedBy}
+use Rattle.chunk_mask.specs.ChunkMasks.{maskOf}
 use Rattle.extract.specs.Streams.{videoPart, audioPart}
 use Rattle.pieces.specs.declared.Opened.{Opened}
 use Rattle.pieces.specs.declared.Opened.the-variants.{More, Known}
@@ -50,13 +47,6 @@ headerIn beginning total how = cond (ltb 0x40000000 total) (Known (Refused tooLo
 
 unfoldable pub filmStep : List ℕ → ℕ → Applied → ℕ → Stepped
 filmStep window total reading c = cond (ltb 0x40000000 total) (Step (step.Refused tooLong)) (stepIn window total reading c)
-
--- rule C7 without the key: which mask the payload of a chunk has, in a film whose audio codec this is
-abbrev pub maskOf : Codec → Kind → ℕ → Mask
-maskOf codec Video data-type = videoMask data-type
-maskOf codec Audio data-type = audioMask codec data-type
-maskOf codec Other data-type = Clear
-maskOf codec End data-type = Clear
 
 -- ---- a reader, who has a window for each place at which it asks
 

@@ -2,11 +2,9 @@
 // no more of a film than that, and one payload.
 ghost use mathlib.Core.Path.{_≡_};
 ghost use Rattle.laws_prefix.specs.Needs.{laidAt};
-ghost use Rattle.pieces.specs.Pieces.{tooLong, isOpen, settledAs, headerIn, filmStep, maskOf};
+ghost use Rattle.pieces.specs.Pieces.{tooLong, isOpen, settledAs, headerIn, filmStep};
 use chunk::ChunkStep;
-use chunk::Kind;
 use chunk::Stepped;
-use codec::Codec;
 use header::HeaderAnswer;
 use layout::LayoutAnswer;
 use reading::Applied;
@@ -16,7 +14,6 @@ use refusal::Cause;
 use refusal::LONGEST;
 use refusal::Refusal;
 use signature::INSIDE;
-use unmasking::Mask;
 
 // What a beginning says of a film's header: what it is, or that more bytes are needed to say.
 pub enum Opened {
@@ -104,16 +101,4 @@ pub fn step_in(window: &[u8], place: usize, total: usize, reading: Applied) -> S
         return Stepped::Step(ChunkStep::Refused(too_long()));
     }
     chunk::step_in(window, place, total as u32, reading)
-}
-
-// The mask that the payload of a chunk has, in a film whose audio codec this is.
-pub fn mask_of(codec: Codec, kind: Kind, data_type: u8) -> Mask
-    ensures { λ r. ⌜ r ≡ maskOf codec kind data_type ⌝ }
-{
-    match kind {
-        Kind::Video => unmasking::video_mask(data_type),
-        Kind::Audio => unmasking::audio_mask(codec, data_type),
-        Kind::Other => Mask::Clear,
-        Kind::End => Mask::Clear,
-    }
 }

@@ -18,7 +18,7 @@ use Rattle.codec.specs.declared.Codec.{Codec}
 use Rattle.unmasking.specs.declared.Mask.the-variants.{Clear, VideoMask, AudioMask}
 use Rattle.unmasking.specs.Unmasking.{isAdx}
 use Rattle.key_shown.specs.Shown.{shownAs, shownIn, shownBy}
-use Rattle.pieces.specs.Pieces.{maskOf}
+use Rattle.chunk_mask.specs.ChunkMasks.{maskOf}
 use Rattle.pieces_bits.specs.PayloadBits.{payloadBits, mostBits}
 
 -- a bound that is not lower shows no fewer bits

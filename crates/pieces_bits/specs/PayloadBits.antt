@@ -8,7 +8,7 @@ use Rattle.codec.specs.declared.Codec.{Codec}
 use Rattle.clip.specs.Clips.{bitsShown}
 use Rattle.unmasking.specs.declared.Mask.{Mask}
 use Rattle.unmasking.specs.declared.Mask.the-variants.{Clear, VideoMask, AudioMask}
-use Rattle.pieces.specs.Pieces.{maskOf}
+use Rattle.chunk_mask.specs.ChunkMasks.{maskOf}
 
 -- "below 0x240 bytes both answers are the payload"
 abbrev pub videoBits : ℕ → ℕ

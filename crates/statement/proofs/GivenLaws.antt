@@ -15,7 +15,7 @@ use Rattle.list.specs.declared.Listed.the-variants.{Count}
 use Rattle.list.specs.declared.ListReply.{ListReply}
 use Rattle.list.specs.Listing.{listReply}
 use Rattle.list.proofs.ReplyLaws.{counted}
-use Rattle.key_shown.specs.Shown.{shownOf}
+use Rattle.key_shown.specs.KeyBits.{shownBits}
 use Rattle.tenants.specs.Tenants.{numberIn, repeated, areBad}
 use Rattle.tenants.specs.Shares.{lineOf, linesFrom, lineAt}
 use Rattle.tenants.proofs.CountLaws.{perm-member}
@@ -51,7 +51,7 @@ lines-long line rank (suc n) = ap suc (lines-long line (suc rank) n)
 
 module _ (container : List ℕ) (tenants lines lines′ : List (List ℕ)) (r : ListReply) (a : Answered container tenants lines r lines′) where
   abbrev pub shownHere : ℕ
-  shownHere = shownOf (filmIn container)
+  shownHere = shownBits (filmIn container)
 
   abbrev pub sizeHere : ℕ
   sizeHere = copyOf (filmIn container)

@@ -21,8 +21,8 @@ use Rattle.walk.specs.Walks.{videoSize, audioSize}
 use Rattle.list.specs.declared.Listed.{Listed}
 use Rattle.list.specs.declared.Listed.the-variants.{Count, Refused}
 use Rattle.list.specs.Listing.{listReply, filledBy}
-use Rattle.key_shown.specs.Shown.{shownOf}
-use Rattle.key_shown.proofs.Promises.{SameStreamsExactlyWhenNotTold}
+use Rattle.key_shown.specs.KeyBits.{shownBits}
+use Rattle.key_shown.proofs.Promises.{SameStreamsExactlyWhenBitsAgree}
 use Rattle.tenants.specs.Tenants.{numberIn, keyIn, repeated, areBad}
 use Rattle.tenants.specs.Shares.{shareOf, groupOf, lineOf}
 use Rattle.tenants.proofs.CountLaws.{perm-length}
@@ -38,66 +38,66 @@ use Rattle.statement.proofs.GivenLaws.{shownHere, sizeHere, no-two, giv
 -- ---- groups
 
 -- the fields of a line
-module _ (bytes size : ℕ) (tenants : List (List ℕ)) (t line : List ℕ) (e : lineOf bytes size tenants t ≡ line) where
+module _ (bits size : ℕ) (tenants : List (List ℕ)) (t line : List ℕ) (e : lineOf bits size tenants t ≡ line) where
   tenant-field : tenantIn line ≡ numberIn t
   unfolding lineOf
   tenant-field = ap tenantIn (sym e)
 
-  group-field : groupIn line ≡ groupOf bytes tenants t
+  group-field : groupIn line ≡ groupOf bits tenants t
   unfolding lineOf
   group-field = ap groupIn (sym e)
 
-  share-field : shareIn line ≡ shareOf bytes size tenants t
+  share-field : shareIn line ≡ shareOf bits size tenants t
   unfolding lineOf
   share-field = ap shareIn (sym e)
 
 pub OneGroupExactlyWhenStreamsAgree : promised.OneGroupExactlyWhenStreamsAgree
 OneGroupExactlyWhenStreamsAgree container tenants lines lines′ r tenant other line line′ video audio videoAfter audioAfter videoAfter′ audioAfter′ contents contents′ a m l q m′ l′ q′ e e′ =
-    let bytes = shownHere container tenants lines lines′ r a in
+    let bits = shownHere container tenants lines lines′ r a in
     let size = sizeHere container tenants lines lines′ r a in
     let d = no-two container tenants lines lines′ r a in
     let of = its-tenant container tenants lines lines′ r a line l in
     let of′ = its-tenant container tenants lines lines′ r a line′ l′ in
-    let t : of .0 ≡ tenant = one-tenant tenants d (of .1) m (sym (tenant-field bytes size tenants (of .0) line (of .2)) ∙ q) in
-    let t′ : of′ .0 ≡ other = one-tenant tenants d (of′ .1) m′ (sym (tenant-field bytes size tenants (of′ .0) line′ (of′ .2)) ∙ q′) in
-    let g : groupIn line ≡ groupOf bytes tenants tenant = group-field bytes size tenants (of .0) line (of .2) ∙ ap (groupOf bytes tenants) t in
-    let g′ : groupIn line′ ≡ groupOf bytes tenants other = group-field bytes size tenants (of′ .0) line′ (of′ .2) ∙ ap (groupOf bytes tenants) t′ in
-    let streams = SameStreamsExactlyWhenNotTold container (asOriginal Chosen) (keyIn tenant) (keyIn other) video audio videoAfter audioAfter videoAfter′ audioAfter′ contents contents′ e e′ in (
-      λ same. streams .0 (of-one-group bytes tenants m m′ d (sym g ∙ same ∙ g′)),
-      λ same. g ∙ one-group bytes tenants m m′ (streams .1 same) ∙ sym g′,
+    let t : of .0 ≡ tenant = one-tenant tenants d (of .1) m (sym (tenant-field bits size tenants (of .0) line (of .2)) ∙ q) in
+    let t′ : of′ .0 ≡ other = one-tenant tenants d (of′ .1) m′ (sym (tenant-field bits size tenants (of′ .0) line′ (of′ .2)) ∙ q′) in
+    let g : groupIn line ≡ groupOf bits tenants tenant = group-field bits size tenants (of .0) line (of .2) ∙ ap (groupOf bits tenants) t in
+    let g′ : groupIn line′ ≡ groupOf bits tenants other = group-field bits size tenants (of′ .0) line′ (of′ .2) ∙ ap (groupOf bits tenants) t′ in
+    let streams = SameStreamsExactlyWhenBitsAgree container (asOriginal Chosen) (keyIn tenant) (keyIn other) video audio videoAfter audioAfter videoAfter′ audioAfter′ contents contents′ e e′ in (
+      λ same. streams .0 (of-one-group bits tenants m m′ d (sym g ∙ same ∙ g′)),
+      λ same. g ∙ one-group bits tenants m m′ (streams .1 same) ∙ sym g′,
     )
 
 -- ---- lines
 
 pub EveryTenantHasALine : promised.EveryTenantHasALine
 EveryTenantHasALine container tenants lines lines′ r a =
-    let bytes = shownHere container tenants lines lines′ r a in
+    let bits = shownHere container tenants lines lines′ r a in
     let size = sizeHere container tenants lines lines′ r a in (
-      ap length (given container tenants lines lines′ r a) ∙ map-length (lineOf bytes size tenants) (rising tenants) ∙ sym (perm-length (perm-rising tenants)),
-      λ tenant m. (lineOf bytes size tenants tenant, its-line container tenants lines lines′ r a tenant m, tenant-field bytes size tenants tenant (lineOf bytes size tenants tenant) refl),
+      ap length (given container tenants lines lines′ r a) ∙ map-length (lineOf bits size tenants) (rising tenants) ∙ sym (perm-length (perm-rising tenants)),
+      λ tenant m. (lineOf bits size tenants tenant, its-line container tenants lines lines′ r a tenant m, tenant-field bits size tenants tenant (lineOf bits size tenants tenant) refl),
     )
 
 pub LinesRise : promised.LinesRise
 LinesRise container tenants lines lines′ r a i j h k =
-    let bytes = shownHere container tenants lines lines′ r a in
+    let bits = shownHere container tenants lines lines′ r a in
     let size = sizeHere container tenants lines lines′ r a in
     let l = rising tenants in
     let long = perm-length (perm-rising tenants) in
     let line-at : (n : ℕ) → n < length tenants → tenantIn (getD (linesGiven r lines′) n []) ≡ numberIn (getD l n []) =
     λ n p.
     ap (λ (g : List (List ℕ)). tenantIn (getD g n [])) (given container tenants lines lines′ r a)
-    ∙ tenant-field bytes size tenants (getD l n []) (getD (map (lineOf bytes size tenants) l) n []) (sym (map-at (lineOf bytes size tenants) l n (omega arith))) in
+    ∙ tenant-field bits size tenants (getD l n []) (getD (map (lineOf bits size tenants) l) n []) (sym (map-at (lineOf bits size tenants) l n (omega arith))) in
     let rise = places-rise 0 l (rising-rises tenants (no-two container tenants lines lines′ r a)) i j h (omega arith) in
     omega (arith, rise, line-at i (omega arith), line-at j k)
 
 -- ---- shares
 
-sum-of : (bytes size group : ℕ) (tenants l : List (List ℕ))
-    → borneBy group (map (lineOf bytes size tenants) l) ≡ total (λ u. cond (eqb (groupOf bytes tenants u) group) (shareOf bytes size tenants u) 0) l
+sum-of : (bits size group : ℕ) (tenants l : List (List ℕ))
+    → borneBy group (map (lineOf bits size tenants) l) ≡ total (λ u. cond (eqb (groupOf bits tenants u) group) (shareOf bits size tenants u) 0) l
 unfolding borneBy total lineOf
-sum-of bytes size group tenants [] = refl
-sum-of bytes size group tenants (t ∷ l) =
-    ap (λ (n : ℕ). cond (eqb (groupOf bytes tenants t) group) (shareOf bytes size tenants t) 0 + n) (sum-of bytes size group tenants l)
+sum-of bits size group tenants [] = refl
+sum-of bits size group tenants (t ∷ l) =
+    ap (λ (n : ℕ). cond (eqb (groupOf bits tenants t) group) (shareOf bits size tenants t) 0 + n) (sum-of bits size group tenants l)
 
 -- the size of a copy is what extraction says of both streams
 copy-size : (container : List ℕ) (key : Key) (video audio videoAfter audioAfter : List ℕ) (contents : Contents) → Unpacked container key video audio contents videoAfter audioAfter
@@ -116,34 +116,34 @@ copy-size container key video audio videoAfter audioAfter contents e = by-film (
 
 pub SharesSumToTheCopy : promised.SharesSumToTheCopy
 SharesSumToTheCopy container tenants lines lines′ r line key video audio videoAfter audioAfter contents a l e =
-    let bytes = shownHere container tenants lines lines′ r a in
+    let bits = shownHere container tenants lines lines′ r a in
     let size = sizeHere container tenants lines lines′ r a in
     let of = its-tenant container tenants lines lines′ r a line l in
-    ap₂ borneBy (group-field bytes size tenants (of .0) line (of .2)) (given container tenants lines lines′ r a)
-    ∙ sum-of bytes size (groupOf bytes tenants (of .0)) tenants (rising tenants)
-    ∙ group-total bytes size tenants (no-two container tenants lines lines′ r a) (of .1)
+    ap₂ borneBy (group-field bits size tenants (of .0) line (of .2)) (given container tenants lines lines′ r a)
+    ∙ sum-of bits size (groupOf bits tenants (of .0)) tenants (rising tenants)
+    ∙ group-total bits size tenants (no-two container tenants lines lines′ r a) (of .1)
     ∙ copy-size container key video audio videoAfter audioAfter contents e
 
 pub SharesDifferByOneAtMost : promised.SharesDifferByOneAtMost
 SharesDifferByOneAtMost container tenants lines lines′ r line line′ a l l′ g =
-    let bytes = shownHere container tenants lines lines′ r a in
+    let bits = shownHere container tenants lines lines′ r a in
     let size = sizeHere container tenants lines lines′ r a in
     let of = its-tenant container tenants lines lines′ r a line l in
     let of′ = its-tenant container tenants lines lines′ r a line′ l′ in
-    rw (share-field bytes size tenants (of .0) line (of .2), share-field bytes size tenants (of′ .0) line′ (of′ .2))
-    (shares-near bytes size tenants (no-two container tenants lines lines′ r a) (of .1) (of′ .1)
-    (sym (group-field bytes size tenants (of .0) line (of .2)) ∙ g ∙ group-field bytes size tenants (of′ .0) line′ (of′ .2)))
+    rw (share-field bits size tenants (of .0) line (of .2), share-field bits size tenants (of′ .0) line′ (of′ .2))
+    (shares-near bits size tenants (no-two container tenants lines lines′ r a) (of .1) (of′ .1)
+    (sym (group-field bits size tenants (of .0) line (of .2)) ∙ g ∙ group-field bits size tenants (of′ .0) line′ (of′ .2)))
 
 pub LargerSharesToTheLowest : promised.LargerSharesToTheLowest
 LargerSharesToTheLowest container tenants lines lines′ r line line′ a l l′ g h =
-    let bytes = shownHere container tenants lines lines′ r a in
+    let bits = shownHere container tenants lines lines′ r a in
     let size = sizeHere container tenants lines lines′ r a in
     let of = its-tenant container tenants lines lines′ r a line l in
     let of′ = its-tenant container tenants lines lines′ r a line′ l′ in
-    rw (share-field bytes size tenants (of .0) line (of .2), share-field bytes size tenants (of′ .0) line′ (of′ .2))
-    (shares-fall bytes size tenants (no-two container tenants lines lines′ r a) (of .1) (of′ .1)
-    (sym (group-field bytes size tenants (of .0) line (of .2)) ∙ g ∙ group-field bytes size tenants (of′ .0) line′ (of′ .2))
-    (omega (arith, h, tenant-field bytes size tenants (of .0) line (of .2), tenant-field bytes size tenants (of′ .0) line′ (of′ .2))))
+    rw (share-field bits size tenants (of .0) line (of .2), share-field bits size tenants (of′ .0) line′ (of′ .2))
+    (shares-fall bits size tenants (no-two container tenants lines lines′ r a) (of .1) (of′ .1)
+    (sym (group-field bits size tenants (of .0) line (of .2)) ∙ g ∙ group-field bits size tenants (of′ .0) line′ (of′ .2))
+    (omega (arith, h, tenant-field bits size tenants (of .0) line (of .2), tenant-field bits size tenants (of′ .0) line′ (of′ .2))))
 
 -- ---- the order, and refusals
 
@@ -162,7 +162,7 @@ OrderMovesNoLine container tenants tenants′ lines linesAfter linesAfter′ r r
     let same : statedOf container tenants (length lines) ≡ statedOf container tenants′ (length lines) =
     ap₂ (λ (bad : Bool) (n : ℕ). cond long (refusedBy TooLong) (cond bad (refusedBy BadTenants) (statedIn (length lines) n f))) (perm-bad p) (perm-length p) in
     let lines-same : areBad tenants ≡ false → linesOf f tenants ≡ linesOf f tenants′ =
-    λ good. perm-lines p (shownOf f) (copyOf f) (distinct tenants (last-false (eqb (length tenants) 0) (ltb 16 (length tenants)) (repeated tenants) good)) in (
+    λ good. perm-lines p (shownBits f) (copyOf f) (distinct tenants (last-false (eqb (length tenants) 0) (ltb 16 (length tenants)) (repeated tenants) good)) in (
       e .0 ∙ ap listReply same ∙ sym (e′ .0),
       e .1 ∙ same-filled long (areBad tenants) (length lines) (length tenants) f lines (linesOf f tenants) (linesOf f tenants′) lines-same
           ∙ ap (λ (answer : Listed). filledBy answer lines (linesOf f tenants′)) same ∙ sym (e′ .1),

@@ -15,7 +15,7 @@ use Rattle.list.specs.declared.Listed.{Listed}
 use Rattle.list.specs.declared.Listed.the-variants.{Refused}
 use Rattle.list.specs.declared.ListReply.{ListReply}
 use Rattle.list.specs.Listing.{countedIn, listReply, filledBy}
-use Rattle.key_shown.specs.Shown.{shownOf}
+use Rattle.key_shown.specs.KeyBits.{shownBits}
 use Rattle.tenants.specs.Tenants.{areBad}
 use Rattle.tenants.specs.Shares.{lineAt, linesFrom}
 
@@ -38,6 +38,19 @@ statedOf container tenants room =
     (cond (areBad tenants) (refusedBy BadTenants)
     (statedIn room (length tenants) (filmIn container)))
 
+-- the lines of tenants, on a film that shows these bits of a key and of which a copy has so many bytes
+abbrev pub linesBy : ℕ → ℕ → List (List ℕ) → List (List ℕ)
+linesBy bits size tenants = linesFrom (lineAt bits size tenants) 0 (length tenants)
+
+-- what is answered on tenants where the film is known
+abbrev pub statedBy : List (List ℕ) → ℕ → Listed
+statedBy tenants room = cond (areBad tenants) (refusedBy BadTenants) (countedIn room (length tenants))
+
+-- what is replied then, and the list after it
+abbrev pub StatedBy : ℕ → ℕ → List (List ℕ) → List (List ℕ) → ListReply → List (List ℕ) → Type 0
+StatedBy bits size tenants lines r lines′ =
+    (r ≡ listReply (statedBy tenants (length lines))) × (lines′ ≡ filledBy (statedBy tenants (length lines)) lines (linesBy bits size tenants))
+
 -- "A copy's bytes (both streams)"
 abbrev pub copyOf : Film → ℕ
 copyOf (film header applied chunks) = videoSize chunks + audioSize chunks
@@ -45,7 +58,7 @@ copyOf (refused refusal) = 0
 
 -- a line for each tenant
 abbrev pub linesOf : Film → List (List ℕ) → List (List ℕ)
-linesOf f tenants = linesFrom (lineAt (shownOf f) (copyOf f) tenants) 0 (length tenants)
+linesOf f tenants = linesBy (shownBits f) (copyOf f) tenants
 
 -- what a statement replies, and the list after it: "list untouched" by a refusal, and past the count
 abbrev pub Stated : List ℕ → List (List ℕ) → List (List ℕ) → ListReply → List (List ℕ) → Type 0

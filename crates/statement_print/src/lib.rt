@@ -4,12 +4,11 @@
 // What is decided is decided by functions of `statement`, `tenants`, `statement_reasons` and `typed`, which have contracts. What is here
 // only prints. No contract can say what is written, so the functions that print have none.
 use film::Surveyed;
+use film_apart::Parting;
+use film_apart::Stream;
 use libc::STDOUT_FILENO;
 use list::ListReply;
-use reading::Applied;
 use reading::AudioChoice;
-use statement_reasons::Place;
-use statement_reasons::Stream;
 use statement_reasons::Why;
 
 // A film of more bytes is refused here.
@@ -18,13 +17,9 @@ pub const LONGEST: usize = 16384;
 // So many tenants at most have a statement.
 const MOST: usize = 16;
 
-// What a film's groups are told by: where its chunks begin and how they are read, whether its audio is ADX, the length of a clip
-// that shows as much of a key, and both sizes.
-struct Told {
-    start: usize,
-    reading: Applied,
-    adx: bool,
-    bytes: usize,
+// What a film's groups are known by: the bits of a key that it shows, and both sizes.
+struct Shown {
+    bits: u64,
     video: usize,
     audio: usize,
 }
@@ -49,11 +44,11 @@ fn print_refusal(number: u64, place: u64) {
 }
 
 // Prints how long a copy is.
-fn print_copy(told: Told) {
+fn print_copy(shown: Shown) {
     print(b"a copy has ");
-    print_number(told.video as u64);
+    print_number(shown.video as u64);
     print(b" bytes of picture and ");
-    print_number(told.audio as u64);
+    print_number(shown.audio as u64);
     print(b" of sound\n");
 }
 
@@ -112,20 +107,32 @@ fn print_marks(key: u64, other: u64) {
     }
 }
 
-// Prints the first byte of the streams that differs.
-fn print_parting(place: Place) {
-    let stream = place.stream;
+// Prints a byte of a stream.
+fn print_byte(stream: Stream, byte: usize) {
     print(b"  first byte that differs: ");
-    print_number(place.byte as u64);
+    print_number(byte as u64);
     match stream {
-        Stream::Picture => print(b" of the picture\n"),
-        Stream::Sound => print(b" of the sound\n"),
+        Stream::VideoStream => print(b" of the picture\n"),
+        Stream::AudioStream => print(b" of the sound\n"),
+    }
+}
+
+// Prints the first byte of the streams that differs. Two groups have one, and their film is read.
+fn print_parting(parting: Parting) {
+    match parting {
+        Parting::Same => {}
+        Parting::Apart {
+            stream,
+            byte,
+            chunk: _,
+            offset: _,
+        } => print_byte(stream, byte),
+        Parting::Refused(_) => {}
     }
 }
 
 // Prints where a group parts from the one before it, by their keys.
-fn print_apart(container: &[u8], told: Told, key: u64, other: u64) {
-    let reading = told.reading;
+fn print_apart(container: &[u8], key: u64, other: u64) {
     print(
         b"  apart from the group before it: the counting digits marked ^ differ\n    key before  ",
     );
@@ -135,22 +142,15 @@ fn print_apart(container: &[u8], told: Told, key: u64, other: u64) {
     print(b"\n                ");
     print_marks(key, other);
     print(b"\n");
-    print_parting(statement_reasons::first_apart(
-        container,
-        told.start,
-        reading,
-        told.adx,
-        told.video,
-        key,
-        other,
-    ));
+    let reading = reading::as_original(AudioChoice::Chosen);
+    print_parting(film_apart::film_apart(container, reading, key, other));
 }
 
-// Prints what is told of a group, after so many others of which the last has this lowest tenant.
+// Prints a group's reasons, after so many others of which the last has this lowest tenant.
 fn print_group(
     container: &[u8],
     tenants: &[[u64; 2]],
-    told: Told,
+    shown: Shown,
     group: u64,
     others: usize,
     last: u64,
@@ -159,19 +159,19 @@ fn print_group(
     print(b"group ");
     print_number(group);
     print(b": ");
-    print_why(statement_reasons::why_one(tenants, told.bytes, key));
+    print_why(statement_reasons::why_one(tenants, shown.bits, key));
     if others == 0 {
         return;
     }
-    print_apart(container, told, tenants::key_of(tenants, last), key);
+    print_apart(container, tenants::key_of(tenants, last), key);
 }
 
-// How many copies the first lines of a list are of: as many as tenants who are the lowest of their group. Prints what is told of
+// How many copies the first lines of a list are of: as many as tenants who are the lowest of their group. Prints the reasons of
 // each.
 fn print_groups(
     container: &[u8],
     tenants: &[[u64; 2]],
-    told: Told,
+    shown: Shown,
     lines: &[[u64; 3]],
     count: usize,
 ) -> usize {
@@ -182,7 +182,7 @@ fn print_groups(
         let line = lines[i];
         if i < count {
             if line[0] == line[1] {
-                print_group(container, tenants, told, line[1], groups, last);
+                print_group(container, tenants, shown, line[1], groups, last);
                 last = line[1];
                 groups = std::num::wrapping_add_usize(groups, 1);
             }
@@ -196,7 +196,7 @@ fn print_groups(
 fn print_statement(
     container: &[u8],
     tenants: &[[u64; 2]],
-    told: Told,
+    shown: Shown,
     lines: &[[u64; 3]],
     reply: ListReply,
 ) {
@@ -204,9 +204,9 @@ fn print_statement(
         print_refusal(reply.number as u64, reply.refused_at as u64);
         return;
     }
-    print_copy(told);
+    print_copy(shown);
     print_lines(lines, reply.count);
-    let copies = print_groups(container, tenants, told, lines, reply.count);
+    let copies = print_groups(container, tenants, shown, lines, reply.count);
     print(b"copies: ");
     print_number(copies as u64);
     print(b"\n");
@@ -230,17 +230,9 @@ pub fn tell(container: &[u8], tenants: &[[u64; 2]]) {
         } => {
             let codec = header.audio_codec;
             let adx = unmasking::is_adx(codec);
-            let start = header.start;
-            let bytes = key_shown::shown_from(container, start, reading, adx);
-            let told = Told {
-                start,
-                reading,
-                adx,
-                bytes,
-                video,
-                audio,
-            };
-            print_statement(container, tenants, told, &lines, reply);
+            let bits = key_shown::bits_from(container, header.start, reading, adx);
+            let shown = Shown { bits, video, audio };
+            print_statement(container, tenants, shown, &lines, reply);
         }
         Surveyed::Refused(_) => print_refusal(reply.number as u64, reply.refused_at as u64),
     }

@@ -1,4 +1,2 @@
-pub mod PartingLaws
-pub mod ApartLaws
-pub mod Promises
 pub mod OneAnswer
+pub mod Promises

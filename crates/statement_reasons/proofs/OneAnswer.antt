@@ -2,10 +2,6 @@
 use mathlib.Core.Path.{_≡_}
 use Rattle.laws.proofs.OneAnswer.{no-second-answer}
 use Rattle.statement_reasons.proofs.why_one.Reads as why-one
-use Rattle.statement_reasons.proofs.first_apart.Reads as first-apart
 
 pub why-one-once : (κs : _) (args : _) (r r′ : _) (exit exit′ : _) → why-one.Learnt κs args r exit → why-one.Learnt κs args r′ exit′ → r ≡ r′
 why-one-once κs args r r′ exit exit′ = no-second-answer
-
-pub first-apart-once : (κs : _) (args : _) (r r′ : _) (exit exit′ : _) → first-apart.Learnt κs args r exit → first-apart.Learnt κs args r′ exit′ → r ≡ r′
-first-apart-once κs args r r′ exit exit′ = no-second-answer

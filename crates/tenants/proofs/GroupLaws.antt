@@ -1,16 +1,15 @@
--- Having one copy is an equivalence: it says that the keys agree in the bits that the film shows. So two tenants have one lowest tenant of their group exactly
--- when they have one copy. Assumes nothing.
+-- Two tenants have one lowest tenant of their group exactly when their keys agree in the bits that the film shows. Assumes nothing.
 use Prim.Native.Nat.{ℕ, _≤_, _<_, min}
 use mathlib.Core.Path.{_≡_, refl, sym, ap, _∙_}
 use mathlib.Core.Logic.{_⊎_, inl, inr, ⊎-elim}
-use mathlib.Core.Bool.{Bool, true, false, cond, not, false≢true}
+use mathlib.Core.Bool.{Bool, true, false, cond, false≢true}
 use mathlib.Core.List.{List, [], _∷_, List·Memᴰ, List·Memᴰ·head, List·Memᴰ·tail}
 use native.Mathlib.Omega.{arith}
 use lib.Dec.{eqb}
-use borrow.Author.Tests.{eq-eqb, eqb-true, not-true}
+use lib.Bits.{bitAnd}
+use borrow.Author.Tests.{eq-eqb, eqb-true}
 use Rattle.laws.proofs.Side.{side}
-use Rattle.clip.specs.Clips.{clipTells}
-use Rattle.clip.proofs.Promises.{NotToldApartExactlyWhenBitsAgree}
+use Rattle.key.specs.LaneBits.{AgreeIn}
 use Rattle.tenants.specs.Tenants.{numberIn, keyIn, sharing, lowest}
 use Rattle.tenants.specs.Shares.{groupOf}
 use Rattle.tenants.proofs.CountLaws.{same-lowest}
@@ -18,36 +17,16 @@ use Rattle.tenants.proofs.RisingLaws.{Distinct, one-tenant}
 
 -- ---- one copy
 
-module _ (bytes : ℕ) where
-  abbrev pub OneCopy : ℕ → ℕ → Type 0
-  OneCopy key key′ = clipTells bytes key key′ ≡ false
-
-  pub copy-own : (key : ℕ) → OneCopy key key
-  copy-own key = NotToldApartExactlyWhenBitsAgree bytes key key .1 refl
-
-  pub copy-back : (key key′ : ℕ) → OneCopy key key′ → OneCopy key′ key
-  copy-back key key′ e = NotToldApartExactlyWhenBitsAgree bytes key′ key .1 (sym (NotToldApartExactlyWhenBitsAgree bytes key key′ .0 e))
-
-  pub copy-on : (key key′ key″ : ℕ) → OneCopy key key′ → OneCopy key′ key″ → OneCopy key key″
-  copy-on key key′ key″ e f =
-      NotToldApartExactlyWhenBitsAgree bytes key key″ .1
-      (NotToldApartExactlyWhenBitsAgree bytes key key′ .0 e ∙ NotToldApartExactlyWhenBitsAgree bytes key′ key″ .0 f)
-
-  same-told : (key key′ other : ℕ) → OneCopy key key′ → (s t : Bool) → clipTells bytes key other ≡ s → clipTells bytes key′ other ≡ t → s ≡ t
-  same-told key key′ other e true true p q = refl
-  same-told key key′ other e true false p q = absurd (false≢true (sym (copy-on key key′ other e q) ∙ p))
-  same-told key key′ other e false true p q = absurd (false≢true (sym (copy-on key′ key other (copy-back key key′ e) p) ∙ q))
-  same-told key key′ other e false false p q = refl
-
+module _ (bits : ℕ) where
   -- keys with one copy have it with the same tenants
-  pub same-sharing : (key key′ : ℕ) → OneCopy key key′ → (t : List ℕ) → sharing bytes key t ≡ sharing bytes key′ t
-  same-sharing key key′ e t = ap not (same-told key key′ (keyIn t) e (clipTells bytes key (keyIn t)) (clipTells bytes key′ (keyIn t)) refl refl)
+  pub same-sharing : (key key′ : ℕ) → AgreeIn bits key key′ → (t : List ℕ) → sharing bits key t ≡ sharing bits key′ t
+  same-sharing key key′ e t = ap (λ (shown : ℕ). eqb shown (bitAnd (keyIn t) bits)) e
 
-  pub shares-copy : (key : ℕ) (t : List ℕ) → sharing bytes key t ≡ true → OneCopy key (keyIn t)
-  shares-copy key t e = not-true (clipTells bytes key (keyIn t)) e
+  pub shares-copy : (key : ℕ) (t : List ℕ) → sharing bits key t ≡ true → AgreeIn bits key (keyIn t)
+  shares-copy key t e = eqb-true (bitAnd key bits) (bitAnd (keyIn t) bits) e
 
-  pub copy-shares : (key : ℕ) (t : List ℕ) → OneCopy key (keyIn t) → sharing bytes key t ≡ true
-  copy-shares key t e = ap not e
+  pub copy-shares : (key : ℕ) (t : List ℕ) → AgreeIn bits key (keyIn t) → sharing bits key t ≡ true
+  copy-shares key t e = eq-eqb (bitAnd key bits) (bitAnd (keyIn t) bits) e
 
 -- ---- the lowest of a group
 
@@ -95,36 +74,36 @@ module _ (test : List ℕ → Bool) (number : ℕ) where
 lowest-member : (test : List ℕ → Bool) (t : List ℕ) (ts : List (List ℕ)) → List·Memᴰ t ts → test t ≡ true → Its test (numberIn t) ts (lowest test (numberIn t) ts)
 lowest-member test t ts m p = ⊎-elim (λ (e : lowest test (numberIn t) ts ≡ numberIn t). (t, m, p, sym e)) (λ (q : Its test (numberIn t) ts (lowest test (numberIn t) ts)). q) (lowest-is test (numberIn t) ts)
 
-module _ (bytes : ℕ) (ts : List (List ℕ)) {t u : List ℕ} (m : List·Memᴰ t ts) (n : List·Memᴰ u ts) where
-  own : (v : List ℕ) → sharing bytes (keyIn v) v ≡ true
-  own v = copy-shares bytes (keyIn v) v (copy-own bytes (keyIn v))
+module _ (bits : ℕ) (ts : List (List ℕ)) {t u : List ℕ} (m : List·Memᴰ t ts) (n : List·Memᴰ u ts) where
+  own : (v : List ℕ) → sharing bits (keyIn v) v ≡ true
+  own v = copy-shares bits (keyIn v) v refl
 
-  pub one-group : OneCopy bytes (keyIn t) (keyIn u) → groupOf bytes ts t ≡ groupOf bytes ts u
+  pub one-group : AgreeIn bits (keyIn t) (keyIn u) → groupOf bits ts t ≡ groupOf bits ts u
   one-group e =
-      let s = sharing bytes (keyIn u) in
-      let p : s t ≡ true = sym (same-sharing bytes (keyIn t) (keyIn u) e t) ∙ own t in
+      let s = sharing bits (keyIn u) in
+      let p : s t ≡ true = sym (same-sharing bits (keyIn t) (keyIn u) e t) ∙ own t in
       let a = lowest-member s t ts m p in
       let b = lowest-member s u ts n (own u) in
       let h = lowest-under s (numberIn t) (b .1) (b .2) in
       let k = lowest-under s (numberIn u) (a .1) (a .2) in
-      same-lowest (sharing bytes (keyIn t)) s (same-sharing bytes (keyIn t) (keyIn u) e) (numberIn t) ts ∙ omega (arith, h, k, a .3, b .3)
+      same-lowest (sharing bits (keyIn t)) s (same-sharing bits (keyIn t) (keyIn u) e) (numberIn t) ts ∙ omega (arith, h, k, a .3, b .3)
 
-  pub of-one-group : Distinct ts → groupOf bytes ts t ≡ groupOf bytes ts u → OneCopy bytes (keyIn t) (keyIn u)
+  pub of-one-group : Distinct ts → groupOf bits ts t ≡ groupOf bits ts u → AgreeIn bits (keyIn t) (keyIn u)
   of-one-group d e =
-      let a = lowest-member (sharing bytes (keyIn t)) t ts m (own t) in
-      let b = lowest-member (sharing bytes (keyIn u)) u ts n (own u) in
+      let a = lowest-member (sharing bits (keyIn t)) t ts m (own t) in
+      let b = lowest-member (sharing bits (keyIn u)) u ts n (own u) in
       let same : a .0 ≡ b .0 = one-tenant ts d (a .1) (b .1) (a .3 ∙ e ∙ sym (b .3)) in
-      let f : OneCopy bytes (keyIn t) (keyIn (b .0)) = rw same at (shares-copy bytes (keyIn t) (a .0) (a .2)) in
-      copy-on bytes (keyIn t) (keyIn (b .0)) (keyIn u) f (copy-back bytes (keyIn u) (keyIn (b .0)) (shares-copy bytes (keyIn u) (b .0) (b .2)))
+      let f : AgreeIn bits (keyIn t) (keyIn (b .0)) = rw same at (shares-copy bits (keyIn t) (a .0) (a .2)) in
+      f ∙ sym (shares-copy bits (keyIn u) (b .0) (b .2))
 
   -- whether two tenants are in one group, as a test
-  pub group-test : Distinct ts → eqb (groupOf bytes ts u) (groupOf bytes ts t) ≡ sharing bytes (keyIn t) u
-  group-test d = by-tests (eqb (groupOf bytes ts u) (groupOf bytes ts t)) (sharing bytes (keyIn t) u) refl refl
+  pub group-test : Distinct ts → eqb (groupOf bits ts u) (groupOf bits ts t) ≡ sharing bits (keyIn t) u
+  group-test d = by-tests (eqb (groupOf bits ts u) (groupOf bits ts t)) (sharing bits (keyIn t) u) refl refl
     where
-      by-tests : (s b : Bool) → eqb (groupOf bytes ts u) (groupOf bytes ts t) ≡ s → sharing bytes (keyIn t) u ≡ b → s ≡ b
+      by-tests : (s b : Bool) → eqb (groupOf bits ts u) (groupOf bits ts t) ≡ s → sharing bits (keyIn t) u ≡ b → s ≡ b
       by-tests true true p q = refl
       by-tests true false p q =
-          absurd (false≢true (sym q ∙ copy-shares bytes (keyIn t) u (of-one-group d (sym (eqb-true (groupOf bytes ts u) (groupOf bytes ts t) p)))))
+          absurd (false≢true (sym q ∙ copy-shares bits (keyIn t) u (of-one-group d (sym (eqb-true (groupOf bits ts u) (groupOf bits ts t) p)))))
       by-tests false true p q =
-          absurd (false≢true (sym p ∙ eq-eqb (groupOf bytes ts u) (groupOf bytes ts t) (sym (one-group (shares-copy bytes (keyIn t) u q)))))
+          absurd (false≢true (sym p ∙ eq-eqb (groupOf bits ts u) (groupOf bits ts t) (sym (one-group (shares-copy bits (keyIn t) u q)))))
       by-tests false false p q = refl

@@ -30,16 +30,16 @@ module _ {ts ts′ : List (List ℕ)} (p : List·Permᴰ ts ts′) where
       ∙ perm-first (hasRank ts′ rank) p
       (rw (sym (same-count (hasRank ts rank) (hasRank ts′ rank) (λ t. ap (λ (n : ℕ). eqb n rank) (perm-count (picked (Below (numberIn t))) p)) ts)) (few-ranked ts d rank))
 
-  module _ (bytes size : ℕ) where
-    perm-line : (t : List ℕ) → lineOf bytes size ts t ≡ lineOf bytes size ts′ t
+  module _ (bits size : ℕ) where
+    perm-line : (t : List ℕ) → lineOf bits size ts t ≡ lineOf bits size ts′ t
     unfolding lineOf
     perm-line t =
-        let group : groupOf bytes ts t ≡ groupOf bytes ts′ t = perm-lowest (sharing bytes (keyIn t)) (numberIn t) p in
-        let share : shareOf bytes size ts t ≡ shareOf bytes size ts′ t =
-        ap₂ (portion size) (perm-count (picked (Sharing bytes (keyIn t))) p) (perm-count (picked (SharingBelow bytes (keyIn t) (numberIn t))) p) in
+        let group : groupOf bits ts t ≡ groupOf bits ts′ t = perm-lowest (sharing bits (keyIn t)) (numberIn t) p in
+        let share : shareOf bits size ts t ≡ shareOf bits size ts′ t =
+        ap₂ (portion size) (perm-count (picked (Sharing bits (keyIn t))) p) (perm-count (picked (SharingBelow bits (keyIn t) (numberIn t))) p) in
         rw (group, share)
 
-    pub perm-lines : Distinct ts → linesFrom (lineAt bytes size ts) 0 (length ts) ≡ linesFrom (lineAt bytes size ts′) 0 (length ts′)
+    pub perm-lines : Distinct ts → linesFrom (lineAt bits size ts) 0 (length ts) ≡ linesFrom (lineAt bits size ts′) 0 (length ts′)
     perm-lines d =
-        same-lines (lineAt bytes size ts) (lineAt bytes size ts′) (λ rank. perm-line (ranked rank ts) ∙ ap (lineOf bytes size ts′) (perm-ranked d rank)) 0 (length ts)
-        ∙ ap (linesFrom (lineAt bytes size ts′) 0) (perm-length p)
+        same-lines (lineAt bits size ts) (lineAt bits size ts′) (λ rank. perm-line (ranked rank ts) ∙ ap (lineOf bits size ts′) (perm-ranked d rank)) 0 (length ts)
+        ∙ ap (linesFrom (lineAt bits size ts′) 0) (perm-length p)

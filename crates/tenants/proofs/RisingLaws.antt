@@ -217,9 +217,9 @@ lines-of line of k (t ∷ s) e =
     ap₂ _∷_ (ap line (sym z) ∙ e 0 (omega arith))
     (lines-of line of (suc k) s (λ i h. let n : suc k + i ≡ k + suc i = omega arith in ap line n ∙ e (suc i) (omega arith)))
 
-pub lines-are : (bytes size : ℕ) (ts : List (List ℕ)) → Distinct ts → linesFrom (lineAt bytes size ts) 0 (length ts) ≡ map (lineOf bytes size ts) (rising ts)
-lines-are bytes size ts d =
+pub lines-are : (bits size : ℕ) (ts : List (List ℕ)) → Distinct ts → linesFrom (lineAt bits size ts) 0 (length ts) ≡ map (lineOf bits size ts) (rising ts)
+lines-are bits size ts d =
     let n : length ts ≡ length (rising ts) = perm-length (perm-rising ts) in
-    ap (linesFrom (lineAt bytes size ts) 0) n
-    ∙ lines-of (lineAt bytes size ts) (lineOf bytes size ts) 0 (rising ts)
-    (λ i h. let z : 0 + i ≡ i = omega arith in ap (lineAt bytes size ts) z ∙ ap (lineOf bytes size ts) (ranked-is ts d i (omega arith)))
+    ap (linesFrom (lineAt bits size ts) 0) n
+    ∙ lines-of (lineAt bits size ts) (lineOf bits size ts) 0 (rising ts)
+    (λ i h. let z : 0 + i ≡ i = omega arith in ap (lineAt bits size ts) z ∙ ap (lineOf bits size ts) (ranked-is ts d i (omega arith)))

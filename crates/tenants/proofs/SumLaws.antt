@@ -10,13 +10,14 @@ use native.Mathlib.Omega.{arith}
 use lib.Dec.{ltb, eqb}
 use borrow.Author.Tests.{lt-ltb, le-ltb, ne-eqb}
 use Rattle.laws.proofs.Side.{side}
+use Rattle.key.specs.LaneBits.{AgreeIn}
 use Rattle.tenants.specs.declared.Pick.the-variants.{SharingBelow}
 use Rattle.tenants.specs.Tenants.{numberIn, keyIn, sharing, picked, counted}
 use Rattle.tenants.specs.Shares.{portion, shareOf, groupOf}
 use Rattle.tenants.proofs.LoopLaws.{at-most-one}
 use Rattle.tenants.proofs.CountLaws.{same-count, perm-count, perm-member, counted-member}
 use Rattle.tenants.proofs.RisingLaws.{Distinct, rising, perm-rising, RisingFrom, rises, rising-rises, lower, Before, none-before, its-rank, one-before}
-use Rattle.tenants.proofs.GroupLaws.{OneCopy, copy-own, same-sharing, shares-copy, copy-shares, group-test, of-one-group}
+use Rattle.tenants.proofs.GroupLaws.{same-sharing, shares-copy, copy-shares, group-test, of-one-group}
 
 -- ---- portions
 
@@ -112,52 +113,52 @@ fewer-lower test number number′ h (t ∷ ts) =
 
 -- ---- the shares of a group
 
-module _ (bytes size : ℕ) (ts : List (List ℕ)) (d : Distinct ts) where
+module _ (bits size : ℕ) (ts : List (List ℕ)) (d : Distinct ts) where
   -- a share, by the copy of another key with which it is one
-  share-by : (key : ℕ) (u : List ℕ) → OneCopy bytes key (keyIn u)
-      → shareOf bytes size ts u ≡ portion size (counted (sharing bytes key) ts) (counted (lower (sharing bytes key) (numberIn u)) ts)
+  share-by : (key : ℕ) (u : List ℕ) → AgreeIn bits key (keyIn u)
+      → shareOf bits size ts u ≡ portion size (counted (sharing bits key) ts) (counted (lower (sharing bits key) (numberIn u)) ts)
   share-by key u e =
-      let same : (t : List ℕ) → sharing bytes key t ≡ sharing bytes (keyIn u) t = same-sharing bytes key (keyIn u) e in
+      let same : (t : List ℕ) → sharing bits key t ≡ sharing bits (keyIn u) t = same-sharing bits key (keyIn u) e in
       sym (ap₂ (portion size)
-      (same-count (sharing bytes key) (sharing bytes (keyIn u)) same ts)
-      (same-count (lower (sharing bytes key) (numberIn u)) (picked (SharingBelow bytes (keyIn u) (numberIn u))) (λ t. ap (λ (b : Bool). ltb (numberIn t) (numberIn u) && b) (same t)) ts))
+      (same-count (sharing bits key) (sharing bits (keyIn u)) same ts)
+      (same-count (lower (sharing bits key) (numberIn u)) (picked (SharingBelow bits (keyIn u) (numberIn u))) (λ t. ap (λ (b : Bool). ltb (numberIn t) (numberIn u) && b) (same t)) ts))
 
   module _ {t : List ℕ} (m : List·Memᴰ t ts) where
     abbrev test : List ℕ → Bool
-    test = sharing bytes (keyIn t)
+    test = sharing bits (keyIn t)
 
     pub some-members : 1 ≤ counted test ts
-    some-members = counted-member test m (copy-shares bytes (keyIn t) t (copy-own bytes (keyIn t)))
+    some-members = counted-member test m (copy-shares bits (keyIn t) t refl)
 
     -- all that is borne of the copy of its group
-    pub group-total : total (λ u. cond (eqb (groupOf bytes ts u) (groupOf bytes ts t)) (shareOf bytes size ts u) 0) (rising ts) ≡ size
+    pub group-total : total (λ u. cond (eqb (groupOf bits ts u) (groupOf bits ts t)) (shareOf bits size ts u) 0) (rising ts) ≡ size
     group-total =
         let p = perm-rising ts in
         let members = counted test ts in
-        same-total (λ u. cond (eqb (groupOf bytes ts u) (groupOf bytes ts t)) (shareOf bytes size ts u) 0) (borne test size members some-members (rising ts)) (rising ts) (λ u n. one-share u n)
+        same-total (λ u. cond (eqb (groupOf bits ts u) (groupOf bits ts t)) (shareOf bits size ts u) 0) (borne test size members some-members (rising ts)) (rising ts) (λ u n. one-share u n)
         ∙ ranks-borne test size members some-members (rising ts) 0 0 (rising ts) (none-before test (rising ts)) (rising-rises ts d)
         ∙ ap (portions size members some-members 0) (sym (perm-count test p)) ∙ all-portions size members some-members
       where
         by-test : (u : List ℕ) (c : Bool) → test u ≡ c
-            → cond c (shareOf bytes size ts u) 0 ≡ cond c (portion size (counted test ts) (counted (lower test (numberIn u)) (rising ts))) 0
+            → cond c (shareOf bits size ts u) 0 ≡ cond c (portion size (counted test ts) (counted (lower test (numberIn u)) (rising ts))) 0
         by-test u true e =
-            share-by (keyIn t) u (shares-copy bytes (keyIn t) u e) ∙ ap (portion size (counted test ts)) (perm-count (lower test (numberIn u)) (perm-rising ts))
+            share-by (keyIn t) u (shares-copy bits (keyIn t) u e) ∙ ap (portion size (counted test ts)) (perm-count (lower test (numberIn u)) (perm-rising ts))
         by-test u false e = refl
 
         one-share : (u : List ℕ) → List·Memᴰ u (rising ts)
-            → cond (eqb (groupOf bytes ts u) (groupOf bytes ts t)) (shareOf bytes size ts u) 0 ≡ borne test size (counted test ts) some-members (rising ts) u
+            → cond (eqb (groupOf bits ts u) (groupOf bits ts t)) (shareOf bits size ts u) 0 ≡ borne test size (counted test ts) some-members (rising ts) u
         one-share u n =
-            ap (λ (b : Bool). cond b (shareOf bytes size ts u) 0) (group-test bytes ts m (perm-member (Permᴰ·symm (perm-rising ts)) n) d) ∙ by-test u (test u) refl
+            ap (λ (b : Bool). cond b (shareOf bits size ts u) 0) (group-test bits ts m (perm-member (Permᴰ·symm (perm-rising ts)) n) d) ∙ by-test u (test u) refl
 
   -- two of one group
-  module _ {t u : List ℕ} (m : List·Memᴰ t ts) (n : List·Memᴰ u ts) (g : groupOf bytes ts t ≡ groupOf bytes ts u) where
-    pub shares-near : shareOf bytes size ts t ≤ shareOf bytes size ts u + 1
+  module _ {t u : List ℕ} (m : List·Memᴰ t ts) (n : List·Memᴰ u ts) (g : groupOf bits ts t ≡ groupOf bits ts u) where
+    pub shares-near : shareOf bits size ts t ≤ shareOf bits size ts u + 1
     shares-near =
-        let e = of-one-group bytes ts m n d g in
-        rw (share-by (keyIn t) u e, share-by (keyIn t) t (copy-own bytes (keyIn t))) (portion-near size (counted (sharing bytes (keyIn t)) ts) (some-members m) _ _)
+        let e = of-one-group bits ts m n d g in
+        rw (share-by (keyIn t) u e, share-by (keyIn t) t refl) (portion-near size (counted (sharing bits (keyIn t)) ts) (some-members m) _ _)
 
-    pub shares-fall : numberIn t < numberIn u → shareOf bytes size ts u ≤ shareOf bytes size ts t
+    pub shares-fall : numberIn t < numberIn u → shareOf bits size ts u ≤ shareOf bits size ts t
     shares-fall l =
-        let e = of-one-group bytes ts m n d g in
-        rw (share-by (keyIn t) u e, share-by (keyIn t) t (copy-own bytes (keyIn t)))
-        (portion-falls size (counted (sharing bytes (keyIn t)) ts) (some-members m) _ _ (fewer-lower (sharing bytes (keyIn t)) (numberIn t) (numberIn u) (omega arith) ts))
+        let e = of-one-group bits ts m n d g in
+        rw (share-by (keyIn t) u e, share-by (keyIn t) t refl)
+        (portion-falls size (counted (sharing bits (keyIn t)) ts) (some-members m) _ _ (fewer-lower (sharing bits (keyIn t)) (numberIn t) (numberIn u) (omega arith) ts))

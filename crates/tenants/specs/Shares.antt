@@ -12,20 +12,20 @@ portion size members rank = cond (eqb members 0) 0 (size / members + cond (ltb r
 
 -- by how many members its group has, and how many of them have a lower number
 abbrev pub shareOf : ℕ → ℕ → List (List ℕ) → List ℕ → ℕ
-shareOf bytes size tenants tenant =
-    portion size (counted (picked (Sharing bytes (keyIn tenant))) tenants) (counted (picked (SharingBelow bytes (keyIn tenant) (numberIn tenant))) tenants)
+shareOf bits size tenants tenant =
+    portion size (counted (picked (Sharing bits (keyIn tenant))) tenants) (counted (picked (SharingBelow bits (keyIn tenant) (numberIn tenant))) tenants)
 
 -- the lowest tenant of its group
 abbrev pub groupOf : ℕ → List (List ℕ) → List ℕ → ℕ
-groupOf bytes tenants tenant = lowest (sharing bytes (keyIn tenant)) (numberIn tenant) tenants
+groupOf bits tenants tenant = lowest (sharing bits (keyIn tenant)) (numberIn tenant) tenants
 
 -- "each gives tenant, lowest tenant of its group and share"
 unfoldable pub lineOf : ℕ → ℕ → List (List ℕ) → List ℕ → List ℕ
-lineOf bytes size tenants tenant = numberIn tenant ∷ groupOf bytes tenants tenant ∷ shareOf bytes size tenants tenant ∷ []
+lineOf bits size tenants tenant = numberIn tenant ∷ groupOf bits tenants tenant ∷ shareOf bits size tenants tenant ∷ []
 
 -- "by rising tenant"
 abbrev pub lineAt : ℕ → ℕ → List (List ℕ) → ℕ → List ℕ
-lineAt bytes size tenants rank = lineOf bytes size tenants (ranked rank tenants)
+lineAt bits size tenants rank = lineOf bits size tenants (ranked rank tenants)
 
 -- so many lines, from a rank on
 unfoldable pub linesFrom : (ℕ → List ℕ) → ℕ → ℕ → List (List ℕ)

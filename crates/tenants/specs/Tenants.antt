@@ -4,9 +4,9 @@ use mathlib.Core.Bool.{Bool, cond, not, _&&_, _||_}
 use mathlib.Core.List.{List, [], _∷_}
 use lib.ListN.{length}
 use lib.Dec.{ltb, eqb}
+use lib.Bits.{bitAnd}
 use Rattle.laws.specs.Lists.{at}
 use Rattle.key.specs.CountingBits.{countingBits}
-use Rattle.clip.specs.Clips.{clipTells}
 use Rattle.tenants.specs.declared.Pick.{Pick}
 use Rattle.tenants.specs.declared.Pick.the-variants.{Numbered, Below, Sharing, SharingBelow, Differing}
 
@@ -16,21 +16,21 @@ numberIn tenant = at tenant 0
 abbrev pub keyIn : List ℕ → ℕ
 keyIn tenant = at tenant 1
 
--- a tenant has one copy with a key, on a film that shows as much of a key as a clip of so many bytes
+-- a tenant has one copy with a key, on a film that shows these bits of a key: both agree in them
 abbrev pub sharing : ℕ → ℕ → List ℕ → Bool
-sharing bytes key tenant = not (clipTells bytes key (keyIn tenant))
+sharing bits key tenant = eqb (bitAnd key bits) (bitAnd (keyIn tenant) bits)
 
 -- and its own key does not agree with that one where it counts
 abbrev pub sharingOtherwise : ℕ → ℕ → List ℕ → Bool
-sharingOtherwise bytes key tenant = not (eqb (countingBits key) (countingBits (keyIn tenant))) && sharing bytes key tenant
+sharingOtherwise bits key tenant = not (eqb (countingBits key) (countingBits (keyIn tenant))) && sharing bits key tenant
 
 -- which tenants are counted
 abbrev pub picked : Pick → List ℕ → Bool
 picked (Numbered number) tenant = eqb (numberIn tenant) number
 picked (Below number) tenant = ltb (numberIn tenant) number
-picked (Sharing bytes key) tenant = sharing bytes key tenant
-picked (SharingBelow bytes key number) tenant = ltb (numberIn tenant) number && sharing bytes key tenant
-picked (Differing bytes key) tenant = sharingOtherwise bytes key tenant
+picked (Sharing bits key) tenant = sharing bits key tenant
+picked (SharingBelow bits key number) tenant = ltb (numberIn tenant) number && sharing bits key tenant
+picked (Differing bits key) tenant = sharingOtherwise bits key tenant
 
 -- how many a test picks
 unfoldable pub counted : (List ℕ → Bool) → List (List ℕ) → ℕ

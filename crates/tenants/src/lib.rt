@@ -1,5 +1,5 @@
-// Tenants who share one copy of a film, and what each has to bear of it. A tenant is lent as its number and its key. What the film
-// shows of a key is given by the length of a clip that shows as much.
+// Tenants who share one copy of a film, and what each has to bear of it. A tenant is lent as its number and its key. `bits` are the
+// bits of a key that the film shows: those whose keys agree in them have one copy.
 // Request 13. Ours: the Rust has nothing of the kind.
 ghost use mathlib.Core.Path.{_≡_};
 ghost use mathlib.Core.Bool.{cond};
@@ -16,44 +16,41 @@ enum Pick {
     // Those of a lower number.
     Below(u64),
     // Those who have one copy with a key.
-    Sharing { bytes: usize, key: u64 },
+    Sharing { bits: u64, key: u64 },
     // Those of a lower number among them.
-    SharingBelow { bytes: usize, key: u64, number: u64 },
+    SharingBelow { bits: u64, key: u64, number: u64 },
     // Those of one copy with a key with which theirs does not agree where it counts.
-    Differing { bytes: usize, key: u64 },
+    Differing { bits: u64, key: u64 },
 }
 
 // So many tenants at most have a statement.
 const MOST: usize = 16;
 
 // Whether a tenant has one copy with a key.
-fn shares(bytes: usize, key: u64, tenant: [u64; 2]) -> bool
-    ensures { λ r. ⌜ r ≡ sharing bytes key tenant ⌝ }
+fn shares(bits: u64, key: u64, tenant: [u64; 2]) -> bool
+    ensures { λ r. ⌜ r ≡ sharing bits key tenant ⌝ }
 {
-    if clip::clip_tells(bytes, key, tenant[1]) {
-        return false;
-    }
-    true
+    key & bits == tenant[1] & bits
 }
 
 // Whether a tenant of a lower number than this has one copy with a key.
-fn shares_below(bytes: usize, key: u64, number: u64, tenant: [u64; 2]) -> bool
-    ensures { λ r. ⌜ r ≡ picked (SharingBelow bytes key number) tenant ⌝ }
+fn shares_below(bits: u64, key: u64, number: u64, tenant: [u64; 2]) -> bool
+    ensures { λ r. ⌜ r ≡ picked (SharingBelow bits key number) tenant ⌝ }
 {
     if tenant[0] < number {
-        return shares(bytes, key, tenant);
+        return shares(bits, key, tenant);
     }
     false
 }
 
 // Whether a tenant has one copy with a key with which its own does not agree where it counts.
-fn shares_otherwise(bytes: usize, key: u64, tenant: [u64; 2]) -> bool
-    ensures { λ r. ⌜ r ≡ sharingOtherwise bytes key tenant ⌝ }
+fn shares_otherwise(bits: u64, key: u64, tenant: [u64; 2]) -> bool
+    ensures { λ r. ⌜ r ≡ sharingOtherwise bits key tenant ⌝ }
 {
     if key::counting_bits(key) == key::counting_bits(tenant[1]) {
         return false;
     }
-    shares(bytes, key, tenant)
+    shares(bits, key, tenant)
 }
 
 // Whether a tenant is counted.
@@ -63,9 +60,9 @@ fn picks(pick: Pick, tenant: [u64; 2]) -> bool
     match pick {
         Pick::Numbered(number) => tenant[0] == number,
         Pick::Below(number) => tenant[0] < number,
-        Pick::Sharing { bytes, key } => shares(bytes, key, tenant),
-        Pick::SharingBelow { bytes, key, number } => shares_below(bytes, key, number, tenant),
-        Pick::Differing { bytes, key } => shares_otherwise(bytes, key, tenant),
+        Pick::Sharing { bits, key } => shares(bits, key, tenant),
+        Pick::SharingBelow { bits, key, number } => shares_below(bits, key, number, tenant),
+        Pick::Differing { bits, key } => shares_otherwise(bits, key, tenant),
     }
 }
 
@@ -94,17 +91,17 @@ fn count(tenants: &[[u64; 2]], pick: Pick) -> usize
 }
 
 // How many tenants have one copy with a key.
-pub fn members(tenants: &[[u64; 2]], bytes: usize, key: u64) -> usize
-    ensures { λ r. ⌜ r ≡ counted (sharing bytes key) (now (tenants .entry)) ⌝ }
+pub fn members(tenants: &[[u64; 2]], bits: u64, key: u64) -> usize
+    ensures { λ r. ⌜ r ≡ counted (sharing bits key) (now (tenants .entry)) ⌝ }
 {
-    count(tenants, Pick::Sharing { bytes, key })
+    count(tenants, Pick::Sharing { bits, key })
 }
 
 // How many of them have a key that does not agree with it where it counts.
-pub fn differing(tenants: &[[u64; 2]], bytes: usize, key: u64) -> usize
-    ensures { λ r. ⌜ r ≡ counted (sharingOtherwise bytes key) (now (tenants .entry)) ⌝ }
+pub fn differing(tenants: &[[u64; 2]], bits: u64, key: u64) -> usize
+    ensures { λ r. ⌜ r ≡ counted (sharingOtherwise bits key) (now (tenants .entry)) ⌝ }
 {
-    count(tenants, Pick::Differing { bytes, key })
+    count(tenants, Pick::Differing { bits, key })
 }
 
 // The smaller of two numbers.
@@ -118,23 +115,23 @@ fn smaller(a: u64, b: u64) -> u64
 }
 
 // The lower of a number and that of a tenant, if this one has one copy with a key.
-fn lower(number: u64, bytes: usize, key: u64, tenant: [u64; 2]) -> u64
-    ensures { λ r. ⌜ r ≡ cond (sharing bytes key tenant) (min (numberIn tenant) number) number ⌝ }
+fn lower(number: u64, bits: u64, key: u64, tenant: [u64; 2]) -> u64
+    ensures { λ r. ⌜ r ≡ cond (sharing bits key tenant) (min (numberIn tenant) number) number ⌝ }
 {
-    if shares(bytes, key, tenant) {
+    if shares(bits, key, tenant) {
         return smaller(tenant[0], number);
     }
     number
 }
 
 // The lowest number among this one and those of the tenants who have one copy with a key.
-fn lowest_of(tenants: &[[u64; 2]], bytes: usize, key: u64, number: u64) -> u64
-    ensures { λ r. ⌜ r ≡ lowest (sharing bytes key) number (now (tenants .entry)) ⌝ }
+fn lowest_of(tenants: &[[u64; 2]], bits: u64, key: u64, number: u64) -> u64
+    ensures { λ r. ⌜ r ≡ lowest (sharing bits key) number (now (tenants .entry)) ⌝ }
 {
     let mut least = number;
     let mut i = 0;
     while i < tenants.len() {
-        let with = lower(least, bytes, key, tenants[i]);
+        let with = lower(least, bits, key, tenants[i]);
         least = with;
         i += 1;
     }
@@ -214,23 +211,23 @@ fn portion_of(size: usize, members: usize, rank: usize) -> u64
 }
 
 // What a tenant bears of the copy of its group.
-fn share_of(tenants: &[[u64; 2]], bytes: usize, size: usize, tenant: [u64; 2]) -> u64
-    ensures { λ r. ⌜ r ≡ shareOf bytes size (now (tenants .entry)) tenant ⌝ }
+fn share_of(tenants: &[[u64; 2]], bits: u64, size: usize, tenant: [u64; 2]) -> u64
+    ensures { λ r. ⌜ r ≡ shareOf bits size (now (tenants .entry)) tenant ⌝ }
 {
     let key = tenant[1];
-    let members = count(tenants, Pick::Sharing { bytes, key });
+    let members = count(tenants, Pick::Sharing { bits, key });
     let number = tenant[0];
-    let rank = count(tenants, Pick::SharingBelow { bytes, key, number });
+    let rank = count(tenants, Pick::SharingBelow { bits, key, number });
     portion_of(size, members, rank)
 }
 
-// The line at a rank: the tenant, the lowest tenant of its group, and its share. `bytes` is the length of a clip that shows as
-// much of a key as the film, `size` that of a copy.
-pub fn line_at(tenants: &[[u64; 2]], bytes: usize, size: usize, rank: usize) -> [u64; 3]
-    ensures { λ r. ⌜ r ≡ lineAt bytes size (now (tenants .entry)) rank ⌝ }
+// The line at a rank: the tenant, the lowest tenant of its group, and its share. `size` is
+// that of a copy.
+pub fn line_at(tenants: &[[u64; 2]], bits: u64, size: usize, rank: usize) -> [u64; 3]
+    ensures { λ r. ⌜ r ≡ lineAt bits size (now (tenants .entry)) rank ⌝ }
 {
     let tenant = ranked_in(tenants, rank);
-    let group = lowest_of(tenants, bytes, tenant[1], tenant[0]);
-    let share = share_of(tenants, bytes, size, tenant);
+    let group = lowest_of(tenants, bits, tenant[1], tenant[0]);
+    let share = share_of(tenants, bits, size, tenant);
     [tenant[0], group, share]
 }

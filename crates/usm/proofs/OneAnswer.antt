@@ -20,6 +20,10 @@ use Rattle.usm.proofs.moving.usm_to_old.Reads as usm-to-old
 use Rattle.usm.proofs.salvaging.usm_salvage.Reads as usm-salvage
 use Rattle.usm.proofs.tables.usm_csv.Reads as usm-csv
 use Rattle.usm.proofs.stating.usm_statement.Reads as usm-statement
+use Rattle.usm.proofs.stating.usm_statement_by.Reads as usm-statement-by
+use Rattle.usm.proofs.partings.usm_apart.Reads as usm-apart
+use Rattle.usm.proofs.partings.usm_payload_apart.Reads as usm-payload-apart
+use Rattle.usm.proofs.partings.usm_why.Reads as usm-why
 use Rattle.usm.proofs.keys.usm_key_bits.Reads as usm-key-bits
 use Rattle.usm.proofs.keys.usm_payload_bits.Reads as usm-payload-bits
 use Rattle.usm.proofs.stepping.usm_open.Reads as usm-open
@@ -98,3 +102,16 @@ usm-clear-once κs args r r′ exit exit′ = no-second-answer
 
 pub usm-payload-bits-once : (κs : _) (args : _) (r r′ : _) (exit exit′ : _) → usm-payload-bits.Learnt κs args r exit → usm-payload-bits.Learnt κs args r′ exit′ → r ≡ r′
 usm-payload-bits-once κs args r r′ exit exit′ = no-second-answer
+
+pub usm-statement-by-once : (κs : _) (args : _) (r r′ : _) (exit exit′ : _) → usm-statement-by.Learnt κs args r exit → usm-statement-by.Learnt κs args r′ exit′
+    → (r ≡ r′) × (exit .1 .1 .1 .0 .now ≡ exit′ .1 .1 .1 .0 .now)
+usm-statement-by-once κs args r r′ exit exit′ l l′ = (no-second-answer (l .0) (l′ .0), no-second-answer (l .1) (l′ .1))
+
+pub usm-apart-once : (κs : _) (args : _) (r r′ : _) (exit exit′ : _) → usm-apart.Learnt κs args r exit → usm-apart.Learnt κs args r′ exit′ → r ≡ r′
+usm-apart-once κs args r r′ exit exit′ = no-second-answer
+
+pub usm-payload-apart-once : (κs : _) (args : _) (r r′ : _) (exit exit′ : _) → usm-payload-apart.Learnt κs args r exit → usm-payload-apart.Learnt κs args r′ exit′ → r ≡ r′
+usm-payload-apart-once κs args r r′ exit exit′ = no-second-answer
+
+pub usm-why-once : (κs : _) (args : _) (r r′ : _) (exit exit′ : _) → usm-why.Learnt κs args r exit → usm-why.Learnt κs args r′ exit′ → r ≡ r′
+usm-why-once κs args r r′ exit exit′ = no-second-answer

@@ -3,6 +3,7 @@
 mod jumps;
 mod keys;
 pub mod moving;
+mod partings;
 mod profiles;
 mod salvaging;
 mod stating;

@@ -32,7 +32,7 @@ pub fn video_in(kind: Kind, len: usize) -> usize
 }
 
 // How much of a payload goes to audio.
-fn audio_in(kind: Kind, len: usize) -> usize
+pub fn audio_in(kind: Kind, len: usize) -> usize
     ensures { λ r. ⌜ r ≡ audioIn kind len ⌝ }
 {
     match kind {

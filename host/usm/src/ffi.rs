@@ -177,6 +177,18 @@ pub struct KeyBitsReply {
 
 #[repr(C)]
 #[derive(Clone, Copy)]
+pub struct ApartReply {
+    pub refused_at: usize,
+    pub byte: usize,
+    pub chunk: usize,
+    pub offset: usize,
+    pub number: u8,
+    pub unknown_type: u8,
+    pub stream: u8,
+}
+
+#[repr(C)]
+#[derive(Clone, Copy)]
 pub struct OpenReply {
     pub film: FilmReply,
     pub chunks: usize,
@@ -231,6 +243,7 @@ is_laid_out!(Tenant, 16, number: 0, key: 8);
 is_laid_out!(Share, 24, tenant: 0, group: 8, share: 16);
 is_laid_out!(IndexEntry, 24, place: 0, chunk: 8, length: 16);
 is_laid_out!(KeyBitsReply, 24, refused_at: 0, bits: 8, number: 16, unknown_type: 17);
+is_laid_out!(ApartReply, 40, refused_at: 0, byte: 8, chunk: 16, offset: 24, number: 32, unknown_type: 33, stream: 34);
 is_laid_out!(OpenReply, 72, film: 0, chunks: 56, more: 64);
 is_laid_out!(FilmAudio, 8, codec: 0, present: 4, has_codec: 5);
 is_laid_out!(StepReply, 40, refused_at: 0, next: 8, payload: 16, length: 24, number: 32, unknown_type: 33, found: 34, kind: 35, data_type: 36, channel: 37, mask: 38);
@@ -308,6 +321,17 @@ unsafe extern "C" {
     ) -> StepReply;
     fn usm_clear(key: u64, mask: u8, payload: *mut u8, len: usize);
     fn usm_payload_bits(mask: u8, length: usize) -> u64;
+    fn usm_apart(container: *const u8, len: usize, reading: Reading, key: u64, other: u64) -> ApartReply;
+    fn usm_payload_apart(mask: u8, length: usize, key: u64, other: u64) -> usize;
+    fn usm_why(bits: u64, key: u64, other: u64) -> u8;
+    fn usm_statement_by(
+        bits: u64,
+        size: usize,
+        tenants: *const Tenant,
+        tenant_count: usize,
+        lines: *mut Share,
+        room: usize,
+    ) -> ListReply;
     fn usm_seek(index: *const IndexEntry, count: usize, byte: u64) -> SeekReply;
 }
 
@@ -414,6 +438,13 @@ pub fn statement(container: &[u8], tenants: &[Tenant], shares: &mut Vec<Share>) 
     })
 }
 
+/// The same of a film that is known by the bits of a key that it shows and by the size of a copy.
+pub fn statement_by(bits: u64, size: usize, tenants: &[Tenant], shares: &mut Vec<Share>) -> ListReply {
+    fill_list(shares, |room| unsafe {
+        usm_statement_by(bits, size, tenants.as_ptr(), tenants.len(), room.as_mut_ptr().cast(), room.len())
+    })
+}
+
 /// The index of a film's video, likewise.
 pub fn index(container: &[u8], entries: &mut Vec<IndexEntry>) -> ListReply {
     fill_list(entries, |room| unsafe {
@@ -454,6 +485,18 @@ pub fn step(window: &[u8], place: usize, total: usize, reading: Reading, audio: 
 
 pub fn payload_bits(mask: u8, length: usize) -> u64 {
     unsafe { usm_payload_bits(mask, length) }
+}
+
+pub fn apart(container: &[u8], reading: Reading, key: u64, other: u64) -> ApartReply {
+    unsafe { usm_apart(container.as_ptr(), container.len(), reading, key, other) }
+}
+
+pub fn payload_apart(mask: u8, length: usize, key: u64, other: u64) -> usize {
+    unsafe { usm_payload_apart(mask, length, key, other) }
+}
+
+pub fn why(bits: u64, key: u64, other: u64) -> u8 {
+    unsafe { usm_why(bits, key, other) }
 }
 
 pub fn clear(key: u64, mask: u8, payload: &mut [u8]) {

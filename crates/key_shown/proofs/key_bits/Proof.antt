@@ -14,22 +14,18 @@ enum-known-header c = search needs
 is-adx-requires : tie.Need-is-adx-requires
 is-adx-requires c κs = search needs
 
-shown-from-requires : tie.Need-shown-from-requires
-shown-from-requires c κs = search needs
-
-bits-shown-requires : tie.Need-bits-shown-requires
-bits-shown-requires c κs = search needs
+bits-from-requires : tie.Need-bits-from-requires
+bits-from-requires c κs = search needs
 
 enum-known-refusal : tie.Need-enum-known-refusal
 enum-known-refusal c = search needs
 
 returns : tie.Need-returns
 returns c =
-    let shown = c .before in
-    let adx = shown .before in
+    let adx = c .before in
     let known = adx .before .before in
     let told = sym (known .before .before .survey .ensures) ∙ known .header .given .1 in
-    bits-told _ _ _ _ _ _ _ told _ (adx .is-adx .ensures) _ (shown .shown-from .ensures) _ (c .bits-shown .ensures)
+    bits-told _ _ _ _ _ _ _ told _ (adx .is-adx .ensures) _ (c .bits-from .ensures)
 
 returns-2 : tie.Need-returns-2
 returns-2 c =
@@ -43,8 +39,7 @@ key-bits-spec =
     survey-requires
     enum-known-header
     is-adx-requires
-    shown-from-requires
-    bits-shown-requires
+    bits-from-requires
     enum-known-refusal
     returns
     returns-2)

@@ -9,10 +9,10 @@ use Rattle.statement.proofs.put_lines.Statement.{statement}
 use Rattle.statement.proofs.put_lines.Tie as tie
 
 abbrev Inv-loop : tie.InvT-loop
-Inv-loop tenants bytes size lines₀ rank₀ lines rank = Putting (lineAt bytes size tenants) (length tenants) lines₀ rank lines
+Inv-loop tenants bits size lines₀ rank₀ lines rank = Putting (lineAt bits size tenants) (length tenants) lines₀ rank lines
 
 abbrev μ-loop : tie.MeasureT-loop
-μ-loop tenants bytes size lines₀ rank₀ lines rank = length tenants - rank
+μ-loop tenants bits size lines₀ rank₀ lines rank = length tenants - rank
 
 loop-holds : tie.Need-loop-holds Inv-loop μ-loop
 loop-holds c = putting-starts _ _ _

@@ -1,9 +1,9 @@
--- `statement::state` meets its contract: each answer from the tests and the survey, and the lines from what the film shows and from both sizes. Assumes nothing.
+-- `statement::state` meets its contract: each answer from the tests and the survey; of a film that is read, that of what it shows and of both sizes. Assumes nothing.
 use mathlib.Core.Path.{sym, _∙_}
 use native.Mathlib.Omega.{arith}
 use borrow.Author.Needs.{needs}
 use Rattle.extract.proofs.Promises.{SizesFitTheContainer}
-use Rattle.statement.proofs.StateLaws.{too-long, bad-tenants, film-refused, short-list, all-stated}
+use Rattle.statement.proofs.StateLaws.{too-long, bad-tenants, film-refused, film-known}
 use Rattle.statement.proofs.state.Statement.{statement}
 use Rattle.statement.proofs.state.Tie as tie
 
@@ -35,71 +35,55 @@ survey-requires c κs = search needs
 enum-known-header : tie.Need-enum-known-header
 enum-known-header c = search needs
 
-refused-requires-3 : tie.Need-refused-requires-3
-refused-requires-3 c κs = search needs
-
-returns-3 : tie.Need-returns-3
-returns-3 c =
-    let known = c .before .before .before in
-    let surveyed = known .before .before in
-    let asked = surveyed .before in
-    let bad = asked .before .before in
-    let e = sym (rw (asked .as-original .ensures) at (surveyed .survey .ensures)) ∙ known .header .given .1 in
-    let args = bad .before .before .before .args in
-    short-list (args .container .now) (args .tenants .now) (args .lines .now) _ (omega arith) (sym (bad .are-bad .ensures) ∙ asked .before .if2 .left) _ _ _ _ _ e (omega arith) (c .refused3 .ensures)
-
 is-adx-requires : tie.Need-is-adx-requires
 is-adx-requires c κs = search needs
 
-shown-from-requires : tie.Need-shown-from-requires
-shown-from-requires c κs = search needs
+bits-from-requires : tie.Need-bits-from-requires
+bits-from-requires c κs = search needs
 
-add-put-lines : tie.Need-add-put-lines
-add-put-lines c =
-    let known = c .before .before .before .before in
+add-state-by : tie.Need-add-state-by
+add-state-by c =
+    let known = c .before .before .before in
     let surveyed = known .before .before in
     let asked = surveyed .before in
     let start = asked .before .before .before .before .before in
     let e = sym (rw (asked .as-original .ensures) at (surveyed .survey .ensures)) ∙ known .header .given .1 in
     omega (arith, SizesFitTheContainer _ _ _ _ _ _ _ e, start .good)
 
-put-lines-requires : tie.Need-put-lines-requires
-put-lines-requires c κs = search needs
-
-list-reply-requires : tie.Need-list-reply-requires
-list-reply-requires c κs = search needs
+state-by-requires : tie.Need-state-by-requires
+state-by-requires c κs = search needs
 
 enum-known-refusal : tie.Need-enum-known-refusal
 enum-known-refusal c = search needs
 
-list-reply-requires-2 : tie.Need-list-reply-requires-2
-list-reply-requires-2 c κs = search needs
+list-reply-requires : tie.Need-list-reply-requires
+list-reply-requires c κs = search needs
 
 same-length : tie.Need-same-length
 same-length c = search needs
 
-returns-4 : tie.Need-returns-4
-returns-4 c =
-    let put = c .before .before in
-    let shown = put .before .before in
+returns-3 : tie.Need-returns-3
+returns-3 c =
+    let stated = c .before in
+    let shown = stated .before .before in
     let adx = shown .before in
-    let known = adx .before .before .before in
+    let known = adx .before .before in
     let surveyed = known .before .before in
     let asked = surveyed .before in
     let bad = asked .before .before in
     let e = sym (rw (asked .as-original .ensures) at (surveyed .survey .ensures)) ∙ known .header .given .1 in
-    all-stated _ _ _ _ (omega arith) (sym (bad .are-bad .ensures) ∙ asked .before .if2 .left) _ _ _ _ _ e (omega arith) _ (adx .is-adx .ensures) _ (shown .shown-from .ensures) _ (put .put-lines .ensures)
-    (c .list-reply .ensures)
+    let args = bad .before .before .before .args in
+    film-known (args .container .now) (args .tenants .now) (args .lines .now) _ (omega arith) (sym (bad .are-bad .ensures) ∙ asked .before .if2 .left) _ _ _ _ _ e _ (adx .is-adx .ensures) _ (shown .bits-from .ensures) _ (stated .state-by .ensures)
 
-returns-5 : tie.Need-returns-5
-returns-5 c =
+returns-4 : tie.Need-returns-4
+returns-4 c =
     let known = c .before .before in
     let surveyed = known .before .before in
     let asked = surveyed .before in
     let bad = asked .before .before in
     let e = sym (rw (asked .as-original .ensures) at (surveyed .survey .ensures)) ∙ known .refusal .given .1 in
     let args = bad .before .before .before .args in
-    film-refused (args .container .now) (args .tenants .now) (args .lines .now) _ (omega arith) (sym (bad .are-bad .ensures) ∙ asked .before .if2 .left) _ e (c .list-reply2 .ensures)
+    film-refused (args .container .now) (args .tenants .now) (args .lines .now) _ (omega arith) (sym (bad .are-bad .ensures) ∙ asked .before .if2 .left) _ e (c .list-reply .ensures)
 
 pub state-spec : {M : Type 1} → statement M
 state-spec =
@@ -113,15 +97,12 @@ state-spec =
     as-original-requires
     survey-requires
     enum-known-header
-    refused-requires-3
-    returns-3
     is-adx-requires
-    shown-from-requires
-    add-put-lines
-    put-lines-requires
-    list-reply-requires
+    bits-from-requires
+    add-state-by
+    state-by-requires
     enum-known-refusal
-    list-reply-requires-2
+    list-reply-requires
     same-length
-    returns-4
-    returns-5)
+    returns-3
+    returns-4)

@@ -9,10 +9,10 @@ use Rattle.tenants.proofs.lowest_of.Statement.{statement}
 use Rattle.tenants.proofs.lowest_of.Tie as tie
 
 abbrev Inv-loop : tie.InvT-loop
-Inv-loop tenants bytes key number least₀ i₀ least i = Lowering (sharing bytes key) number tenants i least
+Inv-loop tenants bits key number least₀ i₀ least i = Lowering (sharing bits key) number tenants i least
 
 abbrev μ-loop : tie.MeasureT-loop
-μ-loop tenants bytes key number least₀ i₀ least i = length tenants - i
+μ-loop tenants bits key number least₀ i₀ least i = length tenants - i
 
 loop-holds : tie.Need-loop-holds Inv-loop μ-loop
 loop-holds c = lowering-starts _ _ _

@@ -1,0 +1,3 @@
+pub mod FilmsApart
+pub mod Reasons
+pub mod Promises

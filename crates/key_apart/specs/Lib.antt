@@ -1,0 +1,2 @@
+pub mod PayloadsApart
+pub mod Promises
