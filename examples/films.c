@@ -3,10 +3,11 @@
  *
  *     films FOLDER KEY  KEY in hex
  *
- * f.usm is example F of document 01, cut.usm its first 428 bytes, which are refused, and empty.usm its
+ * f.usm is example F of docs/RULES.md, cut.usm its first 428 bytes, which are refused, and empty.usm its
  * first 301 bytes, a film without chunks. long.usm is F's header and one video payload of 1 MiB and one
  * byte. song.usm is a film with audio, masked under the key; song.video and song.audio are its two clear
- * streams.
+ * streams. examples/song.usm is what this program writes under 0123456789ABCDEF; examples/run compares
+ * the two.
  */
 #include "films.h"
 #include "key.h"
