@@ -29,25 +29,6 @@
 #define PATH_BYTES 4096
 #define NAME_BYTES 100
 
-/* What the numbers of usm.h mean. */
-static const char *const MEANINGS[] = {
-    "accepted",
-    "bytes run out",
-    "no CRID at the start",
-    "no @UTF where a table begins",
-    "@SFV expected",
-    "@SFA expected",
-    "#HEADER END expected",
-    "#METADATA END expected",
-    "unknown column type",
-    "a size that is too small",
-    "over 64 columns or 256 rows",
-    "longer than 1 GiB",
-    "an output is too short",
-    "the list is too short",
-    "streams longer than the film",
-};
-
 static const char *const CHUNK_KINDS[] = {"video", "audio", "other", "end"};
 
 /* A film in memory, and how it is to be read. */
@@ -146,7 +127,7 @@ static struct usm_film_reply extract(const struct film *film, struct streams *ou
         reply = try_to_extract(film, out);
     }
     if (reply.number != USM_ACCEPTED)
-        give_up(REFUSED, "refused %d at %zu: %s", reply.number, reply.refused_at, MEANINGS[reply.number]);
+        give_up(REFUSED, "refused %d at %zu: %s", reply.number, reply.refused_at, usm_reason(reply.number));
     return reply;
 }
 
