@@ -1,27 +1,27 @@
 /*
  * usm.h: USM films and their chunks, the masks of their payloads, and @UTF tables, for C and C++.
  *
- * The masks stand in libplayer.a, all else in libusm.a, which `rt staticlib player`
- * and `rt staticlib usm` write to target/staticlib/. Both link into x86-64 Linux programs and shared
- * objects, position independent or not, alone or together, and need no other library: of C's they
- * call memcpy, memmove and memset at most.
+ * The masks are in libplayer.a, everything else in libusm.a; `rt staticlib player` and `rt staticlib usm`
+ * write them to target/staticlib/. Both link into x86-64 Linux programs and shared objects, position
+ * independent or not, alone or together, and need no other library: of the C library they call memcpy,
+ * memmove and memset at most.
  *
  *     cc -Iinclude my_player.c target/staticlib/libplayer.a target/staticlib/libusm.a
  *
- * All functions keep no state and may be called from several threads. A pointer gives as many bytes
- * or records as the length beside it says; NULL is allowed where that is 0. The slices of one call do
- * not overlap, and none of them is written by another thread during the call.
+ * No function keeps state; all may be called from several threads. A pointer must give as many bytes
+ * or records as the length beside it says; NULL is allowed where that is 0. The slices of one call must
+ * not overlap, and no other thread may write to them during the call.
  *
- * (proved) marks what is proved of every input, beyond what a single call returns and writes.
+ * (proved) marks what is proved for every input, beyond what a single call returns and writes.
  *
  * What holds for the masks:
  *
  * - A payload is the whole payload of one chunk, never a part of it or several in a row: what
  *   happens to a byte depends on its place in the payload and on the payload's length.
- * - Which payloads are masked is for the caller to know. In a film they are those of data type 0,
- *   and of audio only where the audio codec is ADX, 2. The functions do not look.
- * - They work in place, on any length and at any alignment, and never fail. Until a call returns its
- *   bytes are its own: no other thread reads or writes them.
+ * - The caller has to know which payloads are masked. In a film they are those of data type 0, and of
+ *   audio only where the audio codec is ADX, 2. The functions do not look.
+ * - They work in place, on any length and at any alignment, and never fail. No other thread may read or
+ *   write the bytes until the call returns.
  * - Every number is a key, 0 too. Bits 36 to 39 and 56 to 63 of a key change nothing.
  */
 #ifndef USM_H
@@ -53,9 +53,9 @@ size_t usm_key_table(uint64_t key, uint8_t *table, size_t len);
 /*
  * Unmasks the video payload of `len` bytes at `payload`. Below 0x240 bytes it is unchanged. From
  * there on the bytes below 0x40 are unchanged, and all others are unmasked. It needs 233 bytes of stack
- * below its call, return address and callees included; 136 once the key table is made. This and the
- * other figures of stack are measured on the library (kit rattle-kit-5b) by checks/hard_use/stack.c: the
- * deepest that many calls went on a painted stack, tried again on just so many bytes.
+ * below its call, return address and callees included; 136 once the key table is made. The figures for
+ * stack are measured on the library (kit rattle-kit-5b) by checks/hard_use/stack.c: the greatest depth of
+ * many calls on a painted stack, confirmed on a stack of exactly that size.
  */
 void usm_unmask_video(uint64_t key, uint8_t *payload, size_t len);
 
@@ -79,16 +79,16 @@ void usm_unmask_audio(uint64_t key, uint8_t *payload, size_t len);
 void usm_mask_audio(uint64_t key, uint8_t *payload, size_t len);
 
 /*
- * Replies. Every function below returns its reply, a struct by value that has a name for each thing.
- * Three fields are in all of them but that of usm_seek, which refuses nothing (usm_open has them in `film`):
+ * Replies. Every function below returns a reply, a struct by value. Three fields are in all replies but
+ * that of usm_seek, which refuses nothing (usm_open has them in `film`):
  *
- *     number        0 where the answer is accepted, another where it is refused, as follows
+ *     number        0 where the input is accepted, the number of a refusal where it is not
  *     refused_at    the place that is refused: in a film the start of the block or chunk being read,
  *                   which may lie past the container's end, and 0 beside 2, 11 to 16 and 19 to 23;
  *                   for a table that is read by itself, the table's own
  *     unknown_type  beside USM_UNKNOWN_TYPE the column type: 7, 9 or 12 to 15
  *
- * A field that has no meaning in a reply is 0. A refusal writes nothing: all outputs and the list are
+ * A field that has no meaning in a reply is 0. A refusal writes nothing: all outputs and lists are
  * unchanged.
  */
 #define USM_ACCEPTED 0
@@ -105,8 +105,7 @@ void usm_mask_audio(uint64_t key, uint8_t *payload, size_t len);
 #define USM_TOO_LONG 11       /* a container of over USM_CONTAINER_BYTES, read or to be written */
 #define USM_SHORT_OUTPUT 12   /* the video or the audio output is too short */
 #define USM_SHORT_LIST 13     /* the chunk list, the index or the list of lines is too short */
-/* 14: struck, cannot occur. Both streams together never exceed the container (proved). The number is
- * not used again. */
+/* 14 is not used: it stood for streams longer than the container, which cannot occur (proved). */
 #define USM_MARKED_PAYLOAD 15 /* a payload that would be written begins with the end marker */
 #define USM_SHORT_ROOM 16     /* the output is too short for what would be written */
 #define USM_SHORT_HEADER 17   /* a header size below 0x18, where payloads stand after their headers */
@@ -123,9 +122,9 @@ void usm_mask_audio(uint64_t key, uint8_t *payload, size_t len);
  *     audio     USM_AUDIO_NONE, 0: audio is not taken. Its payloads are skipped, unchecked, so a film
  *               may be accepted without audio and refused with it. USM_AUDIO_CHANNEL, 2: audio of one
  *               channel is taken, and that of the others skipped in the same way. Every other number:
- *               all audio is taken, the channels joined as the original joins them. Tables that are
- *               read by themselves do not look at it
- *     channel   the channel, where audio is USM_AUDIO_CHANNEL: 0 to 255. Else it is not looked at
+ *               all audio is taken, the channels joined as the original joins them. Ignored for tables
+ *               that are read by themselves
+ *     channel   the channel, where audio is USM_AUDIO_CHANNEL: 0 to 255. Otherwise ignored
  *     tables    USM_TABLES_ZERO_COLUMNS: a column whose type byte has the high nibble 1 stores nothing;
  *               its numbers and floats are 0, its strings and data empty. 1, 3, 5 and 7 are the only
  *               high nibbles, and another is USM_UNKNOWN_STORAGE. Every other number: as the original
@@ -167,7 +166,7 @@ static inline struct usm_reading usm_read_channel(uint8_t channel)
     return reading;
 }
 
-/* The reason that a number stands for, in words. Every number has one. */
+/* The meaning of a refusal's number, in words. Every number has one. */
 static inline const char *usm_reason(uint8_t number)
 {
     switch (number) {
@@ -278,7 +277,7 @@ struct usm_cell_reply usm_cell(const uint8_t *bytes, size_t len, size_t place, c
  * A key, or none. 16 bytes.
  *
  *     number    the key; every number is one, 0 too
- *     given     0: there is no key, and `number` is not looked at. Every other number: there is
+ *     given     0: there is no key, and `number` is ignored. Every other number: there is one
  */
 struct usm_key {
     uint64_t number;
@@ -327,17 +326,17 @@ struct usm_film_reply {
 
 /*
  * Extracts both streams of a film: the video payloads into the output `video`, one after the other,
- * and those of audio that is taken into the output `audio`. Bytes past a stream are unchanged. Where
- * one output is too short neither is written, and the reply has both sizes: lend both with length 0
- * to learn them (a film whose streams are both empty is accepted then, with sizes 0). Both streams
- * together are never longer than the container, for every reading (proved), so outputs of its length
- * are always long enough: lend both so, and USM_SHORT_OUTPUT cannot occur.
+ * and those of audio that is taken into the output `audio`. Bytes past a stream are unchanged. If either
+ * output is too short neither is written, and the reply has both sizes: pass length 0 for both to learn
+ * them (a film whose streams are both empty is accepted then, with sizes 0). Both streams together are
+ * never longer than the container, for every reading (proved), so with two outputs of its length
+ * USM_SHORT_OUTPUT cannot occur.
  *
  * Without a key the streams are as stored. With one, payloads of data type 0 are unmasked, those of
  * audio only where the audio codec is ADX, 2. The key changes nothing but the bytes of the streams
  * (proved).
  *
- * `fallback` is the name of a film that has none. It is not looked into: the reply says which of the
+ * `fallback` is the name of a film that has none. Its bytes are not read: the reply says which of the
  * two slices the name is a part of.
  */
 struct usm_film_reply usm_extract(const uint8_t *container, size_t len, struct usm_reading reading,
@@ -375,8 +374,8 @@ struct usm_list_reply {
 
 /*
  * Fills the first records of `list`, which has `room` of them, with the film's chunks in their order;
- * records past them are unchanged. Where the list is too short it is unchanged, and the reply has the
- * count: lend it with length 0 to learn the count (a film without chunks is accepted then).
+ * records past them are unchanged. If the list is too short it is unchanged, and the reply has the
+ * count: pass length 0 to learn the count (a film without chunks is accepted then).
  */
 struct usm_list_reply usm_list(const uint8_t *container, size_t len, struct usm_reading reading,
                                struct usm_chunk *list, size_t room);
@@ -384,7 +383,7 @@ struct usm_list_reply usm_list(const uint8_t *container, size_t len, struct usm_
 /*
  * Reading piece by piece: a film of any size in little memory. usm_open reads the header from the film's
  * first bytes; usm_step finds one chunk after the other, from the 45 bytes that stand at its start;
- * usm_clear makes a payload clear. No function keeps anything between two calls.
+ * usm_clear unmasks a payload. No function keeps anything between two calls.
  *
  *     struct usm_open_reply opened = usm_open(beginning, len, total, reading);
  *     struct usm_film_audio audio = usm_audio_of(opened.film);
@@ -401,9 +400,9 @@ struct usm_list_reply usm_list(const uint8_t *container, size_t len, struct usm_
  *
  * The chunks that the steps find are those of usm_list, and a film that is refused is refused with the
  * number and the place that usm_extract gives, however the film is cut into pieces (proved). The payloads
- * of one kind, made clear and put one after the other, are the stream that usm_extract writes under that
- * key; without a key they are not made clear (proved). A refusal can come late: a caller that writes while
- * it walks has written by then, and one that wants nothing written walks all steps first.
+ * of one kind, unmasked and concatenated, are the stream that usm_extract writes under that key; without a
+ * key, skip usm_clear (proved). A refusal can come late: a caller that writes while it walks has written by
+ * then, and one that wants nothing written walks all steps first.
  */
 
 /* The reply on a beginning. 72 bytes. */
@@ -416,9 +415,8 @@ struct usm_open_reply {
 
 /*
  * What a film of `total` bytes is, by its first `len` bytes: the header, or the film's refusal, or that
- * more bytes are needed. A beginning never says what the whole film does not, and the whole film never
- * needs more (proved). Lend some KiB first, then twice as many. It needs 1,392 bytes of stack below its
- * call.
+ * more bytes are needed. A beginning never contradicts the whole film, and the whole film never needs
+ * more (proved). Pass some KiB first, then twice as many. It needs 1,392 bytes of stack below its call.
  */
 struct usm_open_reply usm_open(const uint8_t *beginning, size_t len, size_t total,
                                struct usm_reading reading);
@@ -439,7 +437,7 @@ static inline struct usm_film_audio usm_audio_of(struct usm_film_reply film)
 /* The reply on a place. 40 bytes. */
 struct usm_step_reply {
     size_t refused_at;
-    size_t next;          /* where the next step is to be asked; the fields from here on are of a chunk */
+    size_t next;          /* the place of the next step; the fields from here on are of a chunk */
     size_t payload;       /* where the payload starts in the film */
     size_t length;        /* its bytes, 0 where it is skipped; it lies within the film (proved) */
     uint8_t number;
@@ -471,15 +469,15 @@ struct usm_step_reply usm_step(const uint8_t *window, size_t len, size_t place, 
                                struct usm_reading reading, struct usm_film_audio audio);
 
 /*
- * Makes the whole payload of a step clear, in place. Where `mask` is neither USM_MASK_VIDEO nor
+ * Unmasks the whole payload of a step, in place. Where `mask` is neither USM_MASK_VIDEO nor
  * USM_MASK_AUDIO nothing changes. It needs 296 bytes of stack below its call.
  */
 void usm_clear(uint64_t key, uint8_t mask, uint8_t *payload, size_t len);
 
 /*
  * Writing. What is written goes into the output of `out_len` bytes at `out`, from its first byte on;
- * bytes past it are unchanged. Where the output is too short it is unchanged, and the reply has the
- * size: lend it with length 0 to learn the size.
+ * bytes past it are unchanged. If the output is too short it is unchanged, and the reply has the size:
+ * pass length 0 to learn the size.
  */
 
 /* The reply on what is written. 24 bytes. */
@@ -497,10 +495,10 @@ struct usm_size_reply {
  *     video_codec, audio_codec
  *                      what the header gives as codecs, where they are given: 9 makes the video ivf, 4
  *                      the audio hca (see above). Every number is one
- *     has_audio        0: there is no audio, and `audio` is not looked at. Every other number: there is,
- *                      be it empty
+ *     has_audio        0: there is no audio, and `audio` is ignored. Every other number: there is, even if
+ *                      it is empty
  *     has_video_codec, has_audio_codec
- *                      0: no codec is given, and its number is not looked at. Every other number: it is
+ *                      0: no codec is given, and its number is ignored. Every other number: it is given
  */
 struct usm_packing {
     struct usm_key key;
@@ -515,7 +513,7 @@ struct usm_packing {
  * Writes a film: the name, which is any bytes, and both streams, which are clear. Extracting it with
  * audio taken and the same key, or none in both, gives back the name, both codecs, whether there is
  * audio, and both streams (proved). Payloads have 65,536 bytes, the last of a stream the rest, and
- * stand by turns, video first.
+ * alternate, video first.
  *
  * Of the numbers it gives, in this order: USM_CODEC_ALONE; USM_TOO_LONG, where the film would be longer
  * than USM_CONTAINER_BYTES; USM_MARKED_PAYLOAD, where a payload begins with the 13 letters of the end
@@ -527,9 +525,9 @@ struct usm_size_reply usm_write(const uint8_t *name, size_t name_len, const uint
                                 struct usm_packing packing, uint8_t *out, size_t out_len);
 
 /*
- * Films of the old builder, the original's UsmBuilder. No extractor reads its container, the original's
- * neither: it is moved to that of usm_write. Payloads travel as they are stored, so no key is needed, and
- * a film whose payloads are masked is one whose payloads are masked after it, under the same key.
+ * Films of the old builder, the original's UsmBuilder. No extractor reads its container, not even the
+ * original's, so it is converted to that of usm_write. Payloads are copied as they are stored: no key is
+ * needed, and payloads that were masked are still masked under the same key.
  */
 
 /*
@@ -538,7 +536,7 @@ struct usm_size_reply usm_write(const uint8_t *name, size_t name_len, const uint
  *     video_codec, audio_codec
  *                      as in usm_packing; the builder's container has none
  *     has_video_codec, has_audio_codec
- *                      0: no codec is given, and its number is not looked at. Every other number: it is
+ *                      0: no codec is given, and its number is ignored. Every other number: it is given
  */
 struct usm_codecs {
     uint32_t video_codec;
@@ -548,8 +546,8 @@ struct usm_codecs {
 };
 
 /*
- * Moves a film of the old builder to the container of usm_write: what usm_write makes of its name and of
- * its streams as they are stored, with these codecs and without a key.
+ * Converts a film of the old builder: the result is what usm_write makes of its name and of its streams
+ * as they are stored, with these codecs and without a key.
  *
  * Of the numbers it gives, in this order: USM_TOO_LONG for the container; USM_FOREIGN, where it is not
  * byte for byte what the builder writes for some name, video and audios; USM_MANY_AUDIOS; then those of
@@ -559,12 +557,12 @@ struct usm_size_reply usm_from_old(const uint8_t *container, size_t len, struct 
                                    uint8_t *out, size_t out_len);
 
 /*
- * Moves a film back: the bytes that usm_from_old was given (proved). Moving these again with the codecs
- * that the container has gives the container (proved).
+ * Converts a film back: the result is the bytes that usm_from_old was given (proved). Converting these
+ * again, with the codecs that the container has, gives the container (proved).
  *
  * Of the numbers it gives, in this order: USM_TOO_LONG for the container; USM_FOREIGN, where usm_from_old
- * writes it from no film; USM_SHORT_ROOM. `refused_at` is 0 beside each. The builder's film is never the
- * longer one.
+ * writes it from no film; USM_SHORT_ROOM. `refused_at` is 0 beside each. The builder's film is never
+ * longer than the container.
  */
 struct usm_size_reply usm_to_old(const uint8_t *container, size_t len, uint8_t *out, size_t out_len);
 
@@ -587,10 +585,10 @@ struct usm_salvage_reply {
  * What can be kept of a film that is cut or damaged: the longest beginning that usm_extract accepts with
  * audio taken and outputs that are long enough, of those that end where a chunk starts, the refused
  * chunk's own start included. It is accepted, and no longer one of them is (proved). A film that is
- * accepted is kept whole, with 0 dropped and cause 0 (proved). The beginning is often shorter than up to
- * the refused chunk: every chunk needs 45 bytes behind its start, and a payload may reach past its chunk.
+ * accepted is kept whole, with 0 dropped and cause 0 (proved). The beginning often ends before the refused
+ * chunk: every chunk needs 45 bytes from its start on, and a payload may reach past its chunk.
  *
- * Of the numbers it gives, in this order: USM_TOO_LONG; those of the header, which is not mended, with
+ * Of the numbers it gives, in this order: USM_TOO_LONG; those of the header, which is not repaired, with
  * their places; USM_NO_BEGINNING, with `refused_at` 0, where no such beginning is accepted. It reads the
  * header at most twice and each chunk once, however many cuts there are to choose from.
  */
@@ -608,14 +606,12 @@ struct usm_salvage_reply usm_salvage(const uint8_t *container, size_t len);
  *
  * Hex digits are lower-case. A field with a comma, a quote, CR or LF stands in quotes, and its quotes are
  * doubled. A table without columns is written as nothing, whatever its rows; one without rows as its
- * names. Reading the bytes back by the RFC's rules gives the same texts, field by field (proved). What a
- * spreadsheet makes of a field is another matter: one that begins with =, +, - or @ may be run as a
- * formula there.
+ * names. Reading the bytes back by the RFC's rules gives the same texts, field by field (proved). Beware of
+ * spreadsheets: they may run a field that begins with =, +, - or @ as a formula, and round long numbers.
  *
  * Of the numbers it gives those of a table, at `place`, and then USM_SHORT_ROOM, at 0. The work is at
- * most in proportion to the table and to the size that is replied, also beside USM_SHORT_ROOM. Rows can
- * share one long string, so a table of 16,384 bytes can have a CSV of over 500,000,000: ask for the size
- * first, and decide.
+ * most proportional to the table and to the size in the reply, also beside USM_SHORT_ROOM. Rows can share
+ * one long string, so a table of 16,384 bytes can have a CSV of over 500,000,000: ask for the size first.
  */
 struct usm_size_reply usm_csv(const uint8_t *bytes, size_t len, size_t place,
                               struct usm_reading reading, uint8_t *out, size_t out_len);
@@ -636,9 +632,9 @@ struct usm_index_entry {
  * Fills the first entries of `index`, which has `room` of them, with those of the film's video payloads
  * in their order, empty ones too; entries past them are unchanged. The reply is that of a listing, with
  * the count of the entries. Tables and payloads are read as the original reads them, without audio: what is
- * refused there is refused here, and then USM_SHORT_LIST, with the count; the index is unchanged then. Lend
- * it with length 0 to learn the count (a film without a video payload is accepted then). An index that is
- * built again is identical (proved).
+ * refused there is refused here, and then USM_SHORT_LIST, with the count; the index is unchanged then. Pass
+ * length 0 to learn the count (a film without a video payload is accepted then). An index that is built
+ * again is identical (proved).
  */
 struct usm_list_reply usm_index(const uint8_t *container, size_t len, struct usm_index_entry *index,
                                 size_t room);
@@ -653,9 +649,9 @@ struct usm_seek_reply {
 /*
  * Where byte `byte` of the video stream stands, by the `count` entries at `index`. By the entries that
  * usm_index filled, it is the byte that usm_extract writes there without a key, and a byte at or above
- * the stream's size is past the end; an empty payload never answers (proved). Other entries have an
- * answer too: that of the last entry that is found, by halving, to begin at or before the byte. Fewer
- * than 2^k entries take k steps (proved).
+ * the stream's size is past the end; an empty payload never answers (proved). Any other entries give an
+ * answer too: that of the last entry that a binary search finds to begin at or before the byte. Fewer than
+ * 2^k entries take k steps (proved).
  */
 struct usm_seek_reply usm_seek(const struct usm_index_entry *index, size_t count, uint64_t byte);
 
@@ -687,7 +683,7 @@ struct usm_profile_reply {
 struct usm_profile_reply usm_profile(const uint8_t *container, size_t len);
 
 /*
- * A statement: which tenants have one copy of a film, and what each bears of it.
+ * A statement: which tenants share a copy of a film, and what each bears of it.
  *
  * Two tenants are in one group exactly when both streams, with all audio taken, are the same byte for byte under
  * their keys. That is decided from the keys, the audio codec, the data types and the payloads' lengths: no stream is
@@ -709,11 +705,10 @@ struct usm_share {
 };
 
 /*
- * Fills `chunk_lines`, which has room for `room` of them, with a line for each tenant, by rising tenant number, whatever
- * the order of `tenants`. `count` of the reply is the tenants' count, also beside USM_SHORT_LIST. Refusals, in this
- * order: USM_TOO_LONG; USM_BAD_TENANTS; what the header and the chunks are refused for, with `refused_at`;
- * USM_SHORT_LIST. A refusal leaves `chunk_lines` as they were, and lines past the count are unchanged. `chunk_lines` overlaps
- * neither the container nor `tenants`.
+ * Fills `lines`, which has room for `room` of them, with a line for each tenant, by rising tenant number, whatever the
+ * order of `tenants`. `count` of the reply is the number of tenants, also beside USM_SHORT_LIST. Refusals, in this order:
+ * USM_TOO_LONG; USM_BAD_TENANTS; those of the header and the chunks, with `refused_at`; USM_SHORT_LIST. A refusal leaves
+ * `lines` unchanged, and so are lines past the count.
  */
 struct usm_list_reply usm_statement(const uint8_t *container, size_t len,
                                     const struct usm_tenant *tenants, size_t tenant_count,
@@ -741,12 +736,12 @@ struct usm_key_bits_reply {
 };
 
 /*
- * Which bits of a key change the streams of a film, read so. Under two keys usm_extract leaves the same two streams
+ * Which bits of a key change the streams of a film, with this reading. Under two keys usm_extract leaves the same two streams
  * exactly when `key & bits` is one number (proved); so the bits that are not set can be cleared in a key, or typed
  * wrong, and nothing changes (proved). A video payload of data type 0 and 0x240 bytes or more shows all that count:
  * 0x00FFFF0FFFFFFFFF. An ADX payload of data type 0 shows, from 0x141 bytes on, bits 0 to 7; from 0x143 16 to 23 too; from
  * 0x145 32 to 35; from 0x147 48 to 55; from 0x149 8 to 15; from 0x14F 24 to 31; from 0x159 40 to 47, which are all. No
- * stream is unpacked, and no key is asked for. It needs 1,600 bytes of stack below its call.
+ * stream is unpacked, and no key is needed. It needs 1,600 bytes of stack below its call.
  */
 struct usm_key_bits_reply usm_key_bits(const uint8_t *container, size_t len, struct usm_reading reading);
 
