@@ -1,5 +1,5 @@
 /*
- * What usm.h says of films and their chunks, tried on example F of document 01 and on the song, with
+ * What usm.h says of films and their chunks, tried on example F of docs/RULES.md and on the song, with
  * outputs and lists of every length that matters: ends with status 0 and the line "checks passed", or
  * with 1 and the line of the check that failed.
  */
@@ -197,7 +197,7 @@ static void try_length(size_t len, uint8_t number, size_t place, size_t count)
     CHECK(number == USM_ACCEPTED || all_is_old());
 }
 
-/* The cuts and paddings that document 01 has, and a film that is none. */
+/* The cuts and paddings of F in docs/RULES.md, and bytes that are no film. */
 static void try_lengths_of_f(void)
 {
     try_length(451, USM_ACCEPTED, 0, 2);

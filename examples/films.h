@@ -1,5 +1,5 @@
 /*
- * Two small films, made in memory, for programs that try usm.h: example F of document 01, and the song,
+ * Two small films, made in memory, for programs that try usm.h: example F of docs/RULES.md, and the song,
  * a film with a name, both codecs, ADX audio, metadata of both streams, and masked payloads.
  */
 #ifndef FILMS_H

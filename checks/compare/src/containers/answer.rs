@@ -1,8 +1,8 @@
-//! What is answered about a container, by the original and by the rules of document 01.
+//! What is answered about a container, by the original and by the rules.
 
 use std::fmt;
 
-/// Why a container is refused: document 01's number, the start of the block being read, and the type that comes with 8.
+/// Why a container is refused: the number of the refusal, the start of the block being read, and the type that comes with 8.
 #[derive(Clone, Copy, PartialEq, Eq)]
 pub struct Refusal {
     pub number: u8,

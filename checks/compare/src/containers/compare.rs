@@ -22,7 +22,7 @@ const REFUSED_RECORDS: usize = 3;
 pub enum Difference {
     /// One of our calls does not do what is expected.
     Ours(String),
-    /// The original does not do what document 01 says.
+    /// The original does not do what the rules say.
     Original(String),
 }
 

@@ -1,4 +1,4 @@
-//! The original's extraction and its walk over the chunks, in the words of document 01.
+//! The original's extraction and its walk over the chunks, in the words of the rules.
 
 use std::io::{Cursor, ErrorKind, Read, Seek, SeekFrom};
 

@@ -1,4 +1,4 @@
-//! "Header walk" and "Chunks" of document 01: what is expected of a container, but for the bytes of its streams.
+//! Rules H and C: what is expected of a container, but for the bytes of its streams.
 
 use super::answer::{Chunk, Kind, Refusal, Tracks};
 use super::table_rules::{self, Cell, Table};

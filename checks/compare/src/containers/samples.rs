@@ -1,4 +1,4 @@
-//! Containers made by hand: example F of document 01, and one at least for each rule.
+//! Containers made by hand: example F of docs/RULES.md, and one at least for each rule.
 
 use super::film::{Chunk, Film, Tables, empty_table};
 use super::rules::{END, SFA, SFV};

@@ -1,4 +1,4 @@
-//! "@UTF tables" of document 01, for the tables of a container.
+//! Rules T, for the tables of a container.
 
 use crate::tables::columns::{DATA, FLOAT, STRING, is_constant, width};
 use crate::tables::domain::{MOST_COLUMNS, MOST_ROWS};

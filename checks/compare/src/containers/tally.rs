@@ -107,7 +107,7 @@ impl Tally {
         }
         line("refused 1, in a child", self.in_child, "the original fills up to 4 GiB before it says so");
         line("inside the domain", self.inside(), "all agree with the original");
-        line("refused 1, left out", self.left_out, "as document 01 says; the original would fill over 16 MiB");
+        line("refused 1, left out", self.left_out, "as the rules say; the original would fill over 16 MiB");
         for (what, rule, words) in OUTSIDE {
             line(what, self.outside[rule as usize], words);
         }
@@ -123,8 +123,8 @@ impl Tally {
 }
 
 const OUTSIDE: [(&str, Rule, &str); 4] = [
-    ("refused 9", Rule::TooSmall, "as document 01 says; the original panics at each"),
-    ("refused 10", Rule::TooMany, "as document 01 says; the original is not asked"),
-    ("refused 11", Rule::TooLong, "as document 01 says; the original is not asked"),
-    ("first chunk past the end", Rule::PastTheEnd, "accepted, as document 01 says; the original panics at each"),
+    ("refused 9", Rule::TooSmall, "as the rules say; the original panics at each"),
+    ("refused 10", Rule::TooMany, "as the rules say; the original is not asked"),
+    ("refused 11", Rule::TooLong, "as the rules say; the original is not asked"),
+    ("first chunk past the end", Rule::PastTheEnd, "accepted, as the rules say; the original panics at each"),
 ];

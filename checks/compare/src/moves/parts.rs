@@ -59,7 +59,7 @@ pub fn old_blocks(container: &[u8]) -> Vec<Block> {
     blocks
 }
 
-/// The parts of request 1's container, by document 01's rules.
+/// The parts of request 1's container, by the rules.
 pub fn of_new(container: &[u8]) -> Option<(Film, Codecs)> {
     let found = rules::read(container, true).answer.ok()?;
     let part = |start: u64, length: u64| &container[start as usize..][..length as usize];

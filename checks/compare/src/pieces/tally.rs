@@ -7,7 +7,7 @@ pub struct Tally {
     pub containers: u64,
     pub accepted: u64,
     pub refused: u64,
-    /// Outside the domain, or too costly to ask the original: as document 01 says.
+    /// Outside the domain, or too costly to ask the original: as the rules say.
     pub by_the_rules: u64,
     pub opens: u64,
     /// Bytes of the beginnings that were enough, and of their films.
@@ -47,7 +47,7 @@ impl Tally {
         line("containers", self.containers, "");
         line("accepted", self.accepted, "piece by piece, and all agree with the original");
         line("refused", self.refused, "with the original's number and place");
-        line("by the rules", self.by_the_rules, "as document 01 says; the original panics or is not asked");
+        line("by the rules", self.by_the_rules, "as the rules say; the original panics or is not asked");
         line("beginnings", self.opens, &format!("{} of {} bytes were enough", self.opened, self.whole));
         line("steps", self.steps, &format!("{} by windows that were too short", self.short_windows));
         line("chunks", self.chunks, "");

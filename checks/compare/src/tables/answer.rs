@@ -29,7 +29,7 @@ impl fmt::Display for Cell {
     }
 }
 
-/// Why a table is refused: document 01's number.
+/// Why a table is refused: the number of the refusal.
 #[derive(Clone, Copy, PartialEq, Eq)]
 pub enum Refusal {
     BytesRunOut,

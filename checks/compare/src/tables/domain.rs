@@ -1,4 +1,4 @@
-//! Refusals 9 and 10, which the original does not have: decided here, in document 01's order.
+//! Refusals 9 and 10, which the original does not have: decided here, in the order of the rules.
 
 use super::answer::Refusal;
 use super::header;

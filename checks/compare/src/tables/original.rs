@@ -1,4 +1,4 @@
-//! The original's reader of tables, in the words of document 01.
+//! The original's reader of tables, in the words of the rules.
 
 use std::io::ErrorKind;
 

@@ -1,4 +1,4 @@
-//! Tables made by hand, at least one for each rule of document 01: for the check and for the record.
+//! Tables made by hand, at least one for each rule of docs/RULES.md: for the check and for the record.
 
 use super::case::Case;
 use super::columns::{CONSTANT, DATA, FLOAT, KNOWN_TYPES, STORED, STRING, UNKNOWN_TYPES, is_constant};

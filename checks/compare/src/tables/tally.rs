@@ -80,8 +80,8 @@ impl Tally {
             println!("refused {number}                 {:>9}", self.refused[number]);
         }
         println!("inside the domain         {:>9}  all agree with the original", self.inside());
-        println!("refused 9                 {:>9}  as document 01 says; the original panics at each", self.outside[9]);
-        println!("refused 10                {:>9}  as document 01 says; the original is not asked", self.outside[10]);
+        println!("refused 9                 {:>9}  as the rules say; the original panics at each", self.outside[9]);
+        println!("refused 10                {:>9}  as the rules say; the original is not asked", self.outside[10]);
         println!("tables                    {:>9}", self.tables());
         for (case, count) in CASES.iter().zip(self.cells) {
             println!("cells: {case:<9}          {count:>9}");
