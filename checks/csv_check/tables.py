@@ -1,4 +1,4 @@
-"""@UTF tables made by chance, and written as CSV by rules V, from the documents alone. What reads them is model/usm.py.
+"""Random @UTF tables, and written as CSV by rules V, from the documents alone. What reads them is model/usm.py.
 
 It knows nothing of the library: what it answers is what the library must. Whoever imports it has the model on its path.
 """
@@ -16,7 +16,7 @@ def csv_of(records):
     return b"".join(b",".join(map(field, record)) + b"\r\n" for record in records)
 
 
-# ---- tables by chance
+# ---- random tables
 
 TEXTS = [b"", b"a", b"filename", b'"', b",", b"\r", b"\n", b"\r\n", b'""', b'a"b', b"a,b", b'","', b" ", b"=1+1", b"-2", b"@x", b"\xff\x80", b"\x01\t;'", b'"\r\n,"']
 
