@@ -1,5 +1,5 @@
 /*
- * A table as CSV: asks for the size, lends as much, and writes the bytes to standard output.
+ * A table as CSV: asks for the size, allocates as much, and writes the bytes to standard output.
  */
 #include "usm.h"
 

@@ -14,10 +14,10 @@
 
 #define KEY 0x0123456789ABCDEF
 
-/* What stands in every byte that is lent. */
+/* The value of every byte of a buffer before a call. */
 #define OLD 0xA5
 
-/* More than each call is lent, so that what lies past a slice is seen too. */
+/* More than each call is given, so that bytes past a slice are checked too. */
 #define SPARE_CHUNKS (SONG_CHUNKS + 2)
 
 /* All that one call can write. */
@@ -61,7 +61,7 @@ static struct usm_list_reply list(const uint8_t *film, size_t len, struct usm_re
     return usm_list(film, len, reading, lent.list, room);
 }
 
-/* Whether nothing that was lent is written. */
+/* Whether no buffer was written to. */
 static int all_is_old(void)
 {
     return is_old(&lent, 0, sizeof lent);
@@ -80,7 +80,7 @@ static int list_is_old(size_t from)
     return is_old(lent.list, from * sizeof lent.list[0], sizeof lent.list);
 }
 
-/* The structs are laid out as the library has them. */
+/* The structs have the sizes and offsets that usm.h states; checks/abi compares them with the library. */
 static void try_layout(void)
 {
     CHECK(sizeof(struct usm_reading) == 4);
@@ -182,7 +182,7 @@ static void try_null(void)
     CHECK(same_list(usm_list(f, F_BYTES, USM_READ_WITH_AUDIO, NULL, 0), list_reply(USM_SHORT_LIST, 0, 2, 0)));
 }
 
-/* F cut to a length, or followed by zeros: the same answer of both, however much is lent. */
+/* F cut to a length, or followed by zeros: both functions answer the same, whatever the buffers. */
 static void try_length(size_t len, uint8_t number, size_t place, size_t count)
 {
     size_t room;
@@ -340,7 +340,7 @@ static void try_channels(void)
     CHECK(is_chunk(3, 2080, USM_CHUNK_AUDIO, 1, second) && lent.list[3].channel == 7);
 }
 
-/* The song with another header size in its first chunk, whose payload then starts after it where that is asked. */
+/* The song with another header size in its first chunk, whose payload then starts after it in that mode. */
 static void try_payloads(void)
 {
     static struct song longer;
@@ -423,7 +423,7 @@ static void try_payload_bits(void)
     CHECK(usm_payload_bits(USM_MASK_AUDIO, 0x159) == 0x00FFFF0FFFFFFFFF);
 }
 
-/* The bits of a key that each film shows. The song shows all of those that count: it has a masked picture. */
+/* The bits of a key that each film shows. The song shows all that count: its video is masked. */
 static void try_key_bits(void)
 {
     struct usm_key_bits_reply reply = usm_key_bits(song.stored.bytes, song.stored.len, USM_READ_WITH_AUDIO);

@@ -33,7 +33,7 @@ static void write_file(const char *folder, const char *name, const uint8_t *byte
     }
 }
 
-/* F's header and one video payload of so many zeros. Gives the bytes of both. */
+/* F's header and one video payload of so many zeros. Returns the bytes of both. */
 static size_t make_long(uint8_t *film, size_t payload)
 {
     make_f(film);

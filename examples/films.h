@@ -69,7 +69,7 @@ static inline void make_f(uint8_t *f)
     put_text(f + F_END + 32, "#CONTENTS END");
 }
 
-/* Begins a block: its letters and 28 bytes more. Gives where it starts. */
+/* Begins a block: its letters and 28 bytes more. Returns where it starts. */
 static inline size_t begin_block(struct film *film, const char *letters)
 {
     size_t start = film->len;
@@ -80,7 +80,7 @@ static inline size_t begin_block(struct film *film, const char *letters)
     return start;
 }
 
-/* Ends a block: zeros up to a multiple of 32, and its size. Gives how many zeros. */
+/* Ends a block: zeros up to a multiple of 32, and its size. Returns how many zeros. */
 static inline size_t end_block(struct film *film, size_t start)
 {
     size_t zeros = (32 - film->len % 32) % 32;
@@ -133,7 +133,7 @@ static inline void add_table(struct film *film, const char *letters, const char 
     end_block(film, start);
 }
 
-/* Adds a chunk with a payload, and gives where the payload is. */
+/* Adds a chunk with a payload; returns where the payload is. */
 static inline uint8_t *add_chunk(struct film *film, const char *letters, uint8_t type, const uint8_t *payload,
                                  size_t len)
 {

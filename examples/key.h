@@ -11,7 +11,7 @@
 /* Said of every other word, after it. */
 #define NO_KEY "is no key: a key is 1 to 16 hex digits, with or without 0x"
 
-/* Reads a key. Gives 1, or 0 where the word is none; the key stays then. */
+/* Reads a key. Returns 1, or 0 where the word is none; the key stays then. */
 static inline int read_key(const char *word, uint64_t *key)
 {
     size_t digits;

@@ -1,6 +1,6 @@
 /*
- * A film of the old builder, moved to the container that usm_extract reads, and back: asks for the size, lends as much,
- * and moves it. The caller says which codecs the streams have, since the builder's container does not.
+ * A film of the old builder, converted to the container that usm_extract reads, and back: asks for the size, allocates
+ * as much, and converts. The caller says which codecs the streams have, since the builder's container does not.
  */
 #include "old_films.h"
 #include "usm.h"

@@ -137,7 +137,7 @@ static inline uint8_t *put_old_chunk(const uint8_t *film, uint8_t *at, const cha
     return put_old_padding(film, at);
 }
 
-/* The film of some parts, in memory that is long enough. Gives its size. */
+/* The film of some parts, in memory that is long enough. Returns its size. */
 static inline size_t put_old_film(uint8_t *film, struct old_parts parts)
 {
     size_t longest = parts.video.len, from, i;

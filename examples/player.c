@@ -43,7 +43,7 @@ static void print_changes(const uint8_t *stored, const uint8_t *clear)
     printf("\n");
 }
 
-/* Unmasks a stored payload and masks it again; gives 1 where it is then as it was stored. */
+/* Unmasks a stored payload and masks it again; returns 1 where it is then as it was stored. */
 static int there_and_back(const char *name, uint64_t key, act *unmask, act *mask)
 {
     uint8_t stored[PAYLOAD_BYTES], payload[PAYLOAD_BYTES];

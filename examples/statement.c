@@ -1,6 +1,6 @@
 /*
- * A statement of the song of films.h for three tenants: who has a copy with whom, and what each bears of it. The keys
- * of tenants 30 and 7 differ only in bits that change nothing, so these two have one copy; 12 has its own.
+ * A statement of the song of films.h for three tenants: who shares a copy with whom, and what each bears of it. The keys
+ * of tenants 30 and 7 differ only in bits that change nothing, so these two share a copy; 12 has its own.
  */
 #include "films.h"
 #include "usm.h"

@@ -5,8 +5,8 @@
  *     steps FILM VIDEO AUDIO      the streams as they are stored
  *     steps FILM VIDEO AUDIO KEY  unmasked under the key, in hex
  *
- * One buffer of 1 MiB holds the header first, and then one payload at a time, since a payload is only made
- * clear as a whole. Those of usm_write have 65,536 bytes at most. A header or a payload that does not fit
+ * One buffer of 1 MiB holds the header first, and then one payload at a time, since a payload can only
+ * be unmasked as a whole. Those of usm_write have 65,536 bytes at most. A header or a payload that does not fit
  * into the buffer ends the program with a message.
  *
  * The steps are walked twice: once to see that nothing is refused and every payload fits, once to write. So
