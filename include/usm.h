@@ -715,7 +715,7 @@ struct usm_list_reply usm_statement(const uint8_t *container, size_t len,
                                     struct usm_share *lines, size_t room);
 
 /*
- * The same of a film that is known by the bits of a key that it shows and by the size of a copy, both streams together: a
+ * The same for a film that is given by the bits of a key that it shows and by the size of a copy, both streams together: a
  * film that was read piece by piece, with all audio taken, gets the lines that usm_statement gives it (proved). Refusals, in
  * this order: USM_BAD_TENANTS, USM_SHORT_LIST.
  */
@@ -762,7 +762,7 @@ struct usm_apart_reply {
     size_t refused_at;
     size_t byte;   /* the first byte of the stream that differs, counted from 0 */
     size_t chunk;  /* where the chunk starts that holds it */
-    size_t offset; /* where it stands in that chunk's payload */
+    size_t offset; /* its offset in that chunk's payload */
     uint8_t number;
     uint8_t unknown_type;
     uint8_t stream; /* USM_VIDEO_STREAM, USM_AUDIO_STREAM; USM_SAME_STREAMS where no byte differs, and beside a refusal */
@@ -786,12 +786,12 @@ size_t usm_payload_apart(uint8_t mask, size_t length, uint64_t key, uint64_t oth
 /* Why two keys give the same streams of a film. */
 #define USM_DIFFERENT 0   /* they do not */
 #define USM_ONE_KEY 1     /* they are one key */
-#define USM_NEVER_COUNT 2 /* they differ in bits alone that change no film */
+#define USM_NEVER_COUNT 2 /* they differ only in bits that change no film */
 #define USM_NOT_SHOWN 3   /* they differ in bits that count, and this film shows none of those */
 
 /*
  * The reason, for a film that shows `bits` of a key (usm_key_bits, usm_payload_bits). It is USM_DIFFERENT exactly where
- * usm_extract leaves other streams under the one key than under the other (proved).
+ * usm_extract leaves different streams under the two keys (proved).
  */
 uint8_t usm_why(uint64_t bits, uint64_t key, uint64_t other);
 
