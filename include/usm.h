@@ -264,6 +264,37 @@ struct usm_cell_reply {
 struct usm_cell_reply usm_cell(const uint8_t *bytes, size_t len, size_t place, const uint8_t *name,
                                size_t name_len, size_t row, struct usm_reading reading);
 
+/* Where a column has its values. */
+#define USM_STORAGE_NONE 0     /* there is no such column */
+#define USM_STORAGE_CONSTANT 1 /* one value for every row, in the column's record */
+#define USM_STORAGE_ROWS 2     /* a value in each row */
+#define USM_STORAGE_ZERO 3     /* nowhere: every value is 0 or empty */
+#define USM_STORAGE_UNKNOWN 4  /* a nibble that says nothing: usm_table refuses such a table */
+
+/* The reply on a column. Beside a refusal, and where there is no such column, all but the first and `number` is 0. 32 bytes. */
+struct usm_column_reply {
+    size_t refused_at;
+    size_t name_start;  /* the name is a part of `bytes`, without its zero byte */
+    size_t name_length;
+    uint8_t number;
+    uint8_t unknown_type;
+    uint8_t storage;
+    uint8_t type_byte;  /* storage in the high half, the type of its values in the low */
+};
+
+/*
+ * The column of a number, counted from 0 in the table's order, and its cell in a row; nothing where the table has no such
+ * column or row. Only the table's header, that column's record and what is asked for are read, so all cells of a table can be
+ * asked for one by one in little time. Whether the table is accepted is for usm_table to say: of one that is not, a column or
+ * cell that can be read is given all the same. Of an accepted table usm_cell gives the cell of the last column that has the
+ * name (proved).
+ */
+struct usm_column_reply usm_column(const uint8_t *bytes, size_t len, size_t place, size_t column,
+                                   struct usm_reading reading);
+
+struct usm_cell_reply usm_cell_at(const uint8_t *bytes, size_t len, size_t place, size_t column, size_t row,
+                                  struct usm_reading reading);
+
 /*
  * Films. The container is the `len` bytes at `container`, a whole USM file, and is never written.
  * USM_TOO_LONG comes first, then the first refusal in reading order, and only then USM_SHORT_OUTPUT

@@ -63,6 +63,10 @@ kept-end : (b : List ℕ) (x : CellAnswer) → Kept b x → endOfAnswer x ≤ le
 kept-end b (Got c) h = inside-end b c h
 kept-end b (Refused why) h = omega arith
 
+-- a cell that is read ends within the body
+pub cell-end : (b : List ℕ) (k p : ℕ) (l : Layout) → endOfAnswer (cellAt b k p l) ≤ length b
+cell-end b k p l = kept-end b (cellAt b k p l) (cell-kept b k p l)
+
 data-end : (t : Bool) (by a n : ℕ) → eqb n 0 ≡ t → cond t 0 (by + a) + n ≤ by + (a + n)
 data-end true by a n e = omega (arith, eqb-true n 0 e)
 data-end false by a n e = omega arith

@@ -2,6 +2,8 @@ pub mod NameLaws
 pub mod SearchLaws
 pub mod CellLaws
 pub mod LookupLaws
+pub mod NumberLaws
+pub mod NamedLaws
 pub mod ModeLaws
 pub mod OneAnswer
 pub mod Promises

@@ -1,4 +1,5 @@
 pub mod Names
 pub mod Search
 pub mod Lookups
+pub mod Numbers
 pub mod Promises

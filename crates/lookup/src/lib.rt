@@ -1,5 +1,7 @@
 // A cell of an @UTF table by its column's name and its row.
 // Rules T. From the Rust: the rows of `get_utf_table`, which it keeps as maps by name.
+pub mod numbers;
+
 ghost use mathlib.Core.Path.{_≡_};
 ghost use Prim.Native.Nat.{_+_, _-_, _*_, _≤_, _<_, _^_};
 ghost use lib.ListN.{length};

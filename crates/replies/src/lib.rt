@@ -1,12 +1,14 @@
 // Answers as C reads them: one struct for each, with a name for each thing in it. What has no meaning in an answer is 0.
 // Ours, beyond the rules: it has the numbers and what is also returned, and names no struct. A listing's reply is in `list`.
 ghost use mathlib.Core.Path.{_≡_};
-ghost use Rattle.replies.specs.TableReplies.{tableReply, cellReply};
+ghost use Rattle.replies.specs.TableReplies.{tableReply, cellReply, storageNumber, columnReply};
 ghost use Rattle.replies.specs.FilmReplies.{bitOf, nameSource, nameStart, nameLength, contentsReply, filmReply};
+use column::Storage;
 use extract::Contents;
 use extract::Extracted;
 use film_name::Name;
 use lookup::Lookup;
+use reading::TableMode;
 use table::TableAnswer;
 
 // The reply on a table.
@@ -28,6 +30,18 @@ pub struct CellReply {
     pub number: u8,
     pub unknown_type: u8,
     pub kind: u8,
+}
+
+// The reply on a column. `storage` is what its type byte says in the table's mode; where there is no such column both are 0.
+#[repr(C)]
+pub struct ColumnReply {
+    pub refused_at: usize,
+    pub name_start: usize,
+    pub name_length: usize,
+    pub number: u8,
+    pub unknown_type: u8,
+    pub storage: u8,
+    pub type_byte: u8,
 }
 
 // The reply on a film.
@@ -99,6 +113,61 @@ pub fn cell_reply(answer: Lookup) -> CellReply
                 number: refusal::number_of(cause),
                 unknown_type: beside.unknown_type,
                 kind: 0,
+            }
+        }
+    }
+}
+
+// The number of a storage.
+fn storage_number(storage: Storage) -> u8
+    ensures { λ r. ⌜ r ≡ storageNumber storage ⌝ }
+{
+    match storage {
+        Storage::Constant => 1,
+        Storage::Stored => 2,
+        Storage::Zero => 3,
+        Storage::Unknown => 4,
+    }
+}
+
+// A column by its name and its type byte, in a table mode, or why there is no table.
+pub fn column_reply(name: Lookup, tag: u8, mode: TableMode) -> ColumnReply
+    ensures { λ r. ⌜ r ≡ columnReply mode tag name ⌝ }
+{
+    match name {
+        Lookup::Holds(held) => {
+            if cell::case_of(held) == 0 {
+                return ColumnReply {
+                    refused_at: 0,
+                    name_start: 0,
+                    name_length: 0,
+                    number: 0,
+                    unknown_type: 0,
+                    storage: 0,
+                    type_byte: 0,
+                };
+            }
+            ColumnReply {
+                refused_at: 0,
+                name_start: cell::value_of(held) as usize,
+                name_length: cell::length_of(held),
+                number: 0,
+                unknown_type: 0,
+                storage: storage_number(column::storage_of(tag as usize, mode)),
+                type_byte: tag,
+            }
+        }
+        Lookup::NoTable(refusal) => {
+            let cause = refusal.cause;
+            let beside = refusal::beside_of(cause);
+            ColumnReply {
+                refused_at: refusal.place,
+                name_start: 0,
+                name_length: 0,
+                number: refusal::number_of(cause),
+                unknown_type: beside.unknown_type,
+                storage: 0,
+                type_byte: 0,
             }
         }
     }

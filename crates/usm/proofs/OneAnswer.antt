@@ -19,6 +19,8 @@ use Rattle.usm.proofs.moving.usm_from_old.Reads as usm-from-old
 use Rattle.usm.proofs.moving.usm_to_old.Reads as usm-to-old
 use Rattle.usm.proofs.salvaging.usm_salvage.Reads as usm-salvage
 use Rattle.usm.proofs.tables.usm_csv.Reads as usm-csv
+use Rattle.usm.proofs.tables.usm_column.Reads as usm-column
+use Rattle.usm.proofs.tables.usm_cell_at.Reads as usm-cell-at
 use Rattle.usm.proofs.stating.usm_statement.Reads as usm-statement
 use Rattle.usm.proofs.stating.usm_statement_by.Reads as usm-statement-by
 use Rattle.usm.proofs.partings.usm_apart.Reads as usm-apart
@@ -115,3 +117,9 @@ usm-payload-apart-once κs args r r′ exit exit′ = no-second-answer
 
 pub usm-why-once : (κs : _) (args : _) (r r′ : _) (exit exit′ : _) → usm-why.Learnt κs args r exit → usm-why.Learnt κs args r′ exit′ → r ≡ r′
 usm-why-once κs args r r′ exit exit′ = no-second-answer
+
+pub usm-column-once : (κs : _) (args : _) (r r′ : _) (exit exit′ : _) → usm-column.Learnt κs args r exit → usm-column.Learnt κs args r′ exit′ → r ≡ r′
+usm-column-once κs args r r′ exit exit′ = no-second-answer
+
+pub usm-cell-at-once : (κs : _) (args : _) (r r′ : _) (exit exit′ : _) → usm-cell-at.Learnt κs args r exit → usm-cell-at.Learnt κs args r′ exit′ → r ≡ r′
+usm-cell-at-once κs args r r′ exit exit′ = no-second-answer

@@ -46,6 +46,18 @@ pub struct CellReply {
 
 #[repr(C)]
 #[derive(Clone, Copy)]
+pub struct ColumnReply {
+    pub refused_at: usize,
+    pub name_start: usize,
+    pub name_length: usize,
+    pub number: u8,
+    pub unknown_type: u8,
+    pub storage: u8,
+    pub type_byte: u8,
+}
+
+#[repr(C)]
+#[derive(Clone, Copy)]
 pub struct FilmReply {
     pub refused_at: usize,
     pub name_start: usize,
@@ -231,6 +243,7 @@ is_laid_out!(Reading, 4, audio: 0, channel: 1, payloads: 2, tables: 3);
 is_laid_out!(Key, 16, number: 0, given: 8);
 is_laid_out!(TableReply, 32, refused_at: 0, columns: 8, rows: 16, number: 24, unknown_type: 25);
 is_laid_out!(CellReply, 32, refused_at: 0, value: 8, length: 16, number: 24, unknown_type: 25, kind: 26);
+is_laid_out!(ColumnReply, 32, refused_at: 0, name_start: 8, name_length: 16, number: 24, unknown_type: 25, storage: 26, type_byte: 27);
 is_laid_out!(FilmReply, 56, refused_at: 0, name_start: 8, name_length: 16, video_size: 24, audio_size: 32, video_codec: 40, audio_codec: 44, number: 48, unknown_type: 49, name_source: 50, has_audio: 51, has_video_codec: 52, has_audio_codec: 53, video_kind: 54, audio_kind: 55);
 is_laid_out!(Chunk, 24, start: 0, kind: 8, data_type: 9, channel: 10, offset: 12, length: 16);
 is_laid_out!(ListReply, 24, refused_at: 0, count: 8, number: 16, unknown_type: 17);
@@ -267,6 +280,15 @@ unsafe extern "C" {
         place: usize,
         name: *const u8,
         name_len: usize,
+        row: usize,
+        reading: Reading,
+    ) -> CellReply;
+    fn usm_column(bytes: *const u8, len: usize, place: usize, column: usize, reading: Reading) -> ColumnReply;
+    fn usm_cell_at(
+        bytes: *const u8,
+        len: usize,
+        place: usize,
+        column: usize,
         row: usize,
         reading: Reading,
     ) -> CellReply;
@@ -372,6 +394,14 @@ pub fn table(bytes: &[u8], place: usize, tables: u8) -> TableReply {
 
 pub fn cell(bytes: &[u8], place: usize, name: &[u8], row: usize, tables: u8) -> CellReply {
     unsafe { usm_cell(bytes.as_ptr(), bytes.len(), place, name.as_ptr(), name.len(), row, by_itself(tables)) }
+}
+
+pub fn column(bytes: &[u8], place: usize, column: usize, tables: u8) -> ColumnReply {
+    unsafe { usm_column(bytes.as_ptr(), bytes.len(), place, column, by_itself(tables)) }
+}
+
+pub fn cell_at(bytes: &[u8], place: usize, column: usize, row: usize, tables: u8) -> CellReply {
+    unsafe { usm_cell_at(bytes.as_ptr(), bytes.len(), place, column, row, by_itself(tables)) }
 }
 
 /// A film's reply without its streams: both outputs have no room.

@@ -187,7 +187,7 @@ impl<'a> Named<'a> {
             name: AsText(column.name),
             name_hex: AsHex(column.name),
             type_byte: column.type_byte,
-            constant: column.constant.is_some(),
+            constant: column.constant,
         }
     }
 }
