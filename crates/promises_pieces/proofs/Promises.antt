@@ -18,6 +18,7 @@ use Rattle.walk.specs.Walks.{clean}
 use Rattle.film.specs.Films.{film, filmOf}
 use Rattle.key_shown.specs.KeyBits.{shownBits}
 use Rattle.film_apart.specs.FilmsApart.{filmApart}
+use Rattle.index.specs.Indexing.{silent}
 use Rattle.pieces.specs.declared.Opened.{Opened}
 use Rattle.pieces.specs.declared.Opened.the-variants.{Known}
 use Rattle.pieces.specs.Pieces.{tooLong, settledAs, headerIn}
@@ -55,3 +56,8 @@ StatementByPieces container header chunks tenants lines lines′ r read =
 
 pub PartingByPieces : promised.PartingByPieces
 PartingByPieces container how header chunks key key′ read = ap (filmApart key key′) (sym (its-film container how header chunks read))
+
+pub IndexByPieces : promised.IndexByPieces
+IndexByPieces container header chunks list list′ r read indexing =
+    let f = its-film container silent header chunks read in
+    (rw f at (indexing .0), rw f at (indexing .1))

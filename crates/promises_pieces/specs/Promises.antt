@@ -13,6 +13,9 @@ use Rattle.chunk.specs.declared.Chunk.{Chunk}
 use Rattle.walk.specs.Walks.{clean, videoSize, audioSize}
 use Rattle.film.specs.Films.{filmOf}
 use Rattle.list.specs.declared.ListReply.{ListReply}
+use Rattle.list.specs.Listing.{countedIn, listReply}
+use Rattle.index.specs.Entries.{entriesOf}
+use Rattle.index.specs.Indexing.{silent, enteredBy, Indexing}
 use Rattle.statement.specs.Statements.{Stated, StatedBy}
 use Rattle.film_apart.specs.FilmsApart.{chunksApart, filmApart}
 use Rattle.pieces.specs.declared.Opened.the-variants.{Known}
@@ -42,3 +45,10 @@ PartingByPieces =
     (container : List ℕ) (how : Reading) (header : Header) (chunks : List Chunk) (key key′ : ℕ)
     → ReadByPieces container how header chunks
     → chunksApart (header .«audio_codec») key key′ chunks ≡ filmApart key key′ (filmOf container how)
+
+-- The entries of the video chunks, each with the lengths of those before it as its place, are the index that `usm_index` builds of the whole film.
+abbrev pub IndexByPieces : Type 0
+IndexByPieces =
+    (container : List ℕ) (header : Header) (chunks : List Chunk) (list list′ : List (List ℕ)) (r : ListReply)
+    → ReadByPieces container silent header chunks → Indexing container list r list′
+    → (r ≡ listReply (countedIn (length list) (length (entriesOf chunks)))) × (list′ ≡ enteredBy list (entriesOf chunks) (countedIn (length list) (length (entriesOf chunks))))
