@@ -130,10 +130,25 @@ prove_libraries() {
     done
 }
 
-# libusm.a as a shared library, for Python.
+# The version of the header, both libraries and the command.
+version() {
+    sed -n 's/^version = "\(.*\)"$/\1/p' "$root/host/Cargo.toml"
+}
+
+# What of the version a program is bound to that links the shared library: 0.1 of 0.1.0.
+bound_version() {
+    version | cut -d. -f1,2
+}
+
+# Both libraries as a shared one in a file: the functions of usm.h and nothing else, under a symbol of the version.
 make_shared_library() {
-    mkdir -p "$(dirname "$1")"
-    "${CC:-cc}" -shared -o "$1" -Wl,--whole-archive "$root/target/staticlib/libusm.a" -Wl,--no-whole-archive
+    local library=$1 bound functions
+    bound=$(bound_version)
+    functions=$("$root/checks/abi" --functions)
+    mkdir -p "$(dirname "$library")"
+    printf 'USM_%s {\nglobal:\n%s\nlocal:\n    *;\n};\n' "$bound" "$(sed 's/.*/    &;/' <<<"$functions")" >"$library.map"
+    "${CC:-cc}" -shared -o "$library" -Wl,-soname,"libusm.so.$bound" -Wl,--version-script="$library.map" -Wl,-z,defs \
+        -Wl,--whole-archive "${libraries[@]}" -Wl,--no-whole-archive
 }
 
 # The three files of the original must be those of the commit that was carried over.

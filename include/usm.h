@@ -8,6 +8,12 @@
  *
  *     cc -Iinclude my_player.c target/staticlib/libplayer.a target/staticlib/libusm.a
  *
+ * `./install` also puts libusm.so in place, which is made of both and shows these functions alone, each
+ * under the symbol of its version (USM_0.1); pkg-config has the flags for either:
+ *
+ *     cc my_player.c $(pkg-config --cflags --libs usm)
+ *     cc -static my_player.c $(pkg-config --static --cflags --libs usm)
+ *
  * No function keeps state; all may be called from several threads. A pointer must give as many bytes
  * or records as the length beside it says; NULL is allowed where that is 0. The slices of one call must
  * not overlap, and no other thread may write to them during the call.
