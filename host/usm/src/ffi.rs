@@ -357,6 +357,9 @@ unsafe extern "C" {
     fn usm_seek(index: *const IndexEntry, count: usize, byte: u64) -> SeekReply;
 }
 
+// Where the libraries are installed ones: a symbol that only those of this version have. Nothing reads it.
+include!(concat!(env!("OUT_DIR"), "/version.rs"));
+
 // SAFETY, for every call below: each pointer and length are those of one slice, or of a vector's room, that is lent to
 // this call. Slices that are written are lent alone. The functions touch nothing else and keep nothing; each is proved
 // to write no byte outside what it is lent.

@@ -68,8 +68,9 @@ impl NameOption {
 const LONGEST: usize = 180;
 
 /// A name that is safe as a file's in any folder, of a film's name: without folders and ending, nothing in front that
-/// hides a file or reads like an option, no character that is not plain or that a shell or another system minds. `None`
-/// where nothing is left.
+/// hides a file, reads like an option or a formula or that a shell puts something else for, no character that is not plain,
+/// that file systems refuse or that a shell obeys, none of the names that Windows keeps for devices. `None` where nothing
+/// is left.
 pub fn safe(name: &[u8]) -> Option<String> {
     let mut last = LastPart(String::new());
     write!(last, "{}", Text(name)).ok()?;
@@ -85,8 +86,11 @@ fn made_safe(name: &str) -> Option<String> {
     let trimmed = name.trim_matches([' ', '.']);
     let is_kept = |character: char| is_safe(character) && !matches!(character, '/' | '\\');
     let mut safe: String = trimmed.chars().map(|character| if is_kept(character) { character } else { '_' }).collect();
-    if safe.starts_with('-') {
+    if safe.starts_with(['-', '~', '#', '=', '+', '@', '%']) {
         safe.replace_range(..1, "_");
+    }
+    if is_device(&safe) {
+        safe.insert(0, '_');
     }
     while safe.len() > LONGEST {
         safe.pop();
@@ -95,7 +99,24 @@ fn made_safe(name: &str) -> Option<String> {
 }
 
 fn is_safe(character: char) -> bool {
-    is_plain(character) && character != char::REPLACEMENT_CHARACTER && !r#":*?"<>|$`'&;!"#.contains(character)
+    let looks_like_a_space = character.is_whitespace() && character != ' ';
+    is_plain(character)
+        && !looks_like_a_space
+        && character != char::REPLACEMENT_CHARACTER
+        && !r#":*?"<>|$`'&;!"#.contains(character)
+}
+
+/// Whether Windows takes a name for a device, whatever ending it has.
+fn is_device(name: &str) -> bool {
+    let stem = name.split('.').next().unwrap_or_default().trim_end().to_ascii_uppercase();
+    match stem.as_str() {
+        "CON" | "PRN" | "AUX" | "NUL" => true,
+        _ => ["COM", "LPT"].iter().any(|device| {
+            stem.strip_prefix(device).is_some_and(|number| {
+                matches!(number, "0" | "1" | "2" | "3" | "4" | "5" | "6" | "7" | "8" | "9" | "¹" | "²" | "³")
+            })
+        }),
+    }
 }
 
 /// Keeps what follows the last slash of either kind, of that no more than matters.
@@ -144,6 +165,17 @@ mod tests {
         assert_eq!(safe(b"a:b*c?d"), "a_b_c_d");
         assert_eq!(safe(b"\x83\\\x83C\x83\x93.usm"), "ソイン", "the second byte of a character is no slash");
         assert_eq!(safe("a\u{202E}b".as_bytes()), "a_b");
+        assert_eq!(safe("a\u{A0}b\u{3000}c d".as_bytes()), "a_b_c d", "what looks like a space is one or is none");
+        for (name, made) in [("~root", "_root"), ("#x", "_x"), ("=1+1", "_1+1"), ("%PATH%", "_PATH%"), ("@x", "_x")] {
+            assert_eq!(safe(name.as_bytes()), made);
+        }
+        for (name, made) in [("CON.usm", "_CON"), ("nul.usm", "_nul"), ("com1.a.usm", "_com1.a"), ("lpt².usm", "_lpt²")]
+        {
+            assert_eq!(safe(name.as_bytes()), made);
+        }
+        for name in ["CONE", "com", "com10", "console", "(a) b", "a=1", "ë"] {
+            assert_eq!(safe(name.as_bytes()), name);
+        }
         assert_eq!(safe(&b"x".repeat(5000)).len(), 180);
         assert_eq!(safe("é".repeat(5000).as_bytes()), "é".repeat(90));
         assert_eq!(safe(&[&b"x".repeat(1 << 20)[..], b"/end.usm"].concat()), "end");

@@ -4,14 +4,14 @@ use std::borrow::Cow;
 
 use clap::Args;
 
-use crate::output::text::{Shown, is_plain};
+use crate::output::text::{Shown, Text, is_plain};
 use crate::output::{Error, Output};
 
 /// What every command that writes CSV takes.
 #[derive(Args)]
 pub struct SpreadsheetOption {
     /// Put ' in front of fields of CSV that a spreadsheet would run as a formula: those that begin with =, +, -, @, a tab
-    /// or a carriage return, numbers left out. Without it CSV is exact
+    /// or a carriage return, numbers left out. Tables are written in UTF-8. Without it CSV is exact
     #[arg(long)]
     pub spreadsheet: bool,
 }
@@ -64,15 +64,24 @@ fn without_formula(field: Cow<[u8]>) -> Cow<[u8]> {
     }
 }
 
-/// CSV that is made already, with fields that no spreadsheet runs.
+/// By this a spreadsheet sees that text is UTF-8, and not in an encoding of its own country.
+const MARK: &str = "\u{FEFF}";
+
+/// CSV that is made already, for spreadsheets: with fields that none runs, and in UTF-8, which has a mark in front where it
+/// is more than ASCII.
 pub fn for_spreadsheets(text: &[u8]) -> Result<Vec<u8>, Error> {
     let wrong = |error: csv::Error| Error::System(error.to_string());
     let mut reader = csv::ReaderBuilder::new().has_headers(false).flexible(true).from_reader(text);
-    let mut writer = csv::WriterBuilder::new().terminator(csv::Terminator::CRLF).flexible(true).from_writer(Vec::new());
+    let mark = if text.is_ascii() { "" } else { MARK };
+    let mut writer = csv::WriterBuilder::new()
+        .terminator(csv::Terminator::CRLF)
+        .flexible(true)
+        .from_writer(mark.as_bytes().to_vec());
     for record in reader.byte_records() {
         let record = record.map_err(wrong)?;
         for field in &record {
-            writer.write_field(without_formula(field.into())).map_err(wrong)?;
+            let field = if field.is_ascii() { field.into() } else { Text(field).to_string().into_bytes().into() };
+            writer.write_field(without_formula(field)).map_err(wrong)?;
         }
         writer.write_record(None::<&[u8]>).map_err(wrong)?;
     }
@@ -81,8 +90,8 @@ pub fn for_spreadsheets(text: &[u8]) -> Result<Vec<u8>, Error> {
 
 /// Whether CSV that is made already can go to a terminal: it holds nothing that moves something there.
 pub fn is_plain_text(text: &[u8]) -> bool {
-    std::str::from_utf8(text)
-        .is_ok_and(|text| text.chars().all(|character| is_plain(character) || matches!(character, '\r' | '\n')))
+    let may_be_shown = |character| is_plain(character) || matches!(character, '\r' | '\n');
+    std::str::from_utf8(text).is_ok_and(|text| text.strip_prefix(MARK).unwrap_or(text).chars().all(may_be_shown))
 }
 
 #[cfg(test)]
@@ -99,6 +108,15 @@ mod tests {
             assert_eq!(safe(field), field);
         }
         assert_eq!(for_spreadsheets(b"a,\"=x,\"\"y\"\r\n-5,b\r\n").unwrap(), b"a,\"'=x,\"\"y\"\r\n-5,b\r\n");
+    }
+
+    #[test]
+    fn spreadsheets_get_utf8() {
+        let text = |bytes: &[u8]| String::from_utf8(for_spreadsheets(bytes).unwrap()).unwrap();
+        assert_eq!(text(b"name\r\n\x83\x81\x83C\x83\x93\r\n"), "\u{FEFF}name\r\nメイン\r\n", "Shift-JIS");
+        assert_eq!(text("=é,b\r\n".as_bytes()), "\u{FEFF}'=é,b\r\n");
+        assert_eq!(text(b"a\xFF,b\r\n"), "\u{FEFF}a\u{FFFD},b\r\n", "neither");
+        assert!(is_plain_text(text("é\r\n".as_bytes()).as_bytes()));
     }
 
     #[test]
