@@ -166,8 +166,17 @@ impl<R: Read + Seek> Reader<R> {
 
     /// Back to the first chunk.
     pub fn rewind(&mut self) -> Result<(), Error> {
+        self.stand_at(self.first)
+    }
+
+    /// Back to a chunk of this film that was given before, which is the next one again.
+    pub fn back_to(&mut self, chunk: &ChunkHead) -> Result<(), Error> {
+        self.stand_at(chunk.start)
+    }
+
+    fn stand_at(&mut self, chunk: usize) -> Result<(), Error> {
         self.window.rewind()?;
-        self.next = self.first;
+        self.next = chunk;
         self.pending = None;
         Ok(())
     }

@@ -186,6 +186,24 @@ fn a_checked_film_is_read_from_its_first_chunk() {
     assert_eq!(refusal.number, 1);
 }
 
+/// In the middle of a film, and from where its reader stood.
+#[test]
+fn back_to_a_chunk() {
+    let bytes = [b"before".to_vec(), file("song.usm")].concat();
+    let mut source = Cursor::new(bytes);
+    source.set_position(6);
+    let mut reader = Reader::new(source, Reading::default()).unwrap();
+    let all: Vec<_> = reader.chunks().collect::<Result<_, _>>().unwrap();
+    assert!(all.len() > 3);
+    for (number, chunk) in all.iter().enumerate() {
+        reader.back_to(chunk).unwrap();
+        let rest: Vec<_> = reader.chunks().collect::<Result<_, _>>().unwrap();
+        assert_eq!(rest, all[number..]);
+    }
+    reader.back_to(&all[1]).unwrap();
+    assert_eq!(reader.next_part(None).unwrap().unwrap().bytes.len(), all[1].length);
+}
+
 #[test]
 fn from_where_a_reader_stands() {
     let bytes = [b"before".to_vec(), file("song.usm")].concat();

@@ -1,6 +1,7 @@
 //! `usm list`: the chunks of films.
 
 use std::cell::RefCell;
+use std::io::Write;
 use std::path::Path;
 
 use clap::Args;
@@ -15,6 +16,7 @@ use crate::output::text::Shown;
 use crate::output::{Error, Status};
 use crate::output::{Output, print_to, report_error};
 use crate::run::input::Input;
+use crate::run::progress::Meter;
 use crate::run::sources::Films;
 use crate::run::workers::{self, Film, Task, Turn};
 
@@ -57,42 +59,97 @@ impl Task for List {
     fn film<'a>(&'a self, film: Film<'a, '_>, turn: &Turn<'a, '_>) -> Result<(), Error> {
         let Film { label, input, meter, .. } = film;
         let mut reader = input.reader(self.reading.reading(), meter)?;
-        // What is printed can't be taken back: all chunks are looked at before.
-        let mut count = 0;
-        while reader.next_chunk()?.is_some() {
-            count += 1;
-            meter.reach(reader.place());
-        }
-        reader.get_ref().check_end()?;
-        reader.rewind()?;
+        let chunks = Chunks::of(&mut reader, meter)?;
         let mut printer = turn.take();
         if self.films.options.json {
-            printer.object(&Object { about: About::new("chunks", label), chunks: InOrder::of(&mut reader) })
+            printer.object(&Object { about: About::new("chunks", label), chunks: InOrder(RefCell::new(chunks)) })
         } else if self.csv {
-            print_lines(label, &mut reader, CsvLines::new(&mut printer, self.spreadsheet.spreadsheet))
+            print_lines(label, chunks, CsvLines::new(&mut printer, self.spreadsheet.spreadsheet))
         } else {
-            print_chunks(label, count, &mut reader, &mut printer)
+            print_chunks(label, chunks, &mut printer)
         }
     }
 }
 
-fn print_chunks(label: &Path, count: usize, reader: &mut Reader<&mut Input>, output: &mut Output) -> Result<(), Error> {
+/// The heads of so many chunks are held, some 5 MiB.
+const HELD: usize = 1 << 17;
+
+/// The chunks of a film, all of which were looked at: what is printed can't be taken back. Those that are held, or for which
+/// there is memory, are not looked at again.
+struct Chunks<'r, 'i> {
+    count: usize,
+    held: std::vec::IntoIter<ChunkHead>,
+    /// Stands after those that are held.
+    reader: &'r mut Reader<&'i mut Input>,
+}
+
+impl<'r, 'i> Chunks<'r, 'i> {
+    fn of(reader: &'r mut Reader<&'i mut Input>, meter: &Meter) -> Result<Chunks<'r, 'i>, Error> {
+        let mut held: Vec<ChunkHead> = Vec::new();
+        let (mut count, mut other) = (0, None);
+        while let Some(chunk) = reader.next_chunk()? {
+            count += 1;
+            meter.reach(reader.place());
+            if other.is_none() && held.len() < HELD && held.try_reserve(1).is_ok() {
+                held.push(chunk);
+            } else {
+                other.get_or_insert(chunk);
+            }
+        }
+        reader.get_ref().check_end()?;
+        if let Some(other) = other {
+            reader.back_to(&other)?;
+        }
+        Ok(Chunks { count, held: held.into_iter(), reader })
+    }
+
+    fn next(&mut self) -> Result<Option<ChunkHead>, usm::Error> {
+        match self.held.next() {
+            None => self.reader.next_chunk(),
+            held => Ok(held),
+        }
+    }
+}
+
+fn print_chunks(label: &Path, mut chunks: Chunks, output: &mut Output) -> Result<(), Error> {
     output.gap()?;
-    let wide = reader.total().to_string().len().max("length".len());
-    let chunks = if count == 1 { "chunk" } else { "chunks" };
-    print_to!(output, "{}: {count} {chunks}\n", Shown::path(label));
+    let wide = chunks.reader.total().to_string().len().max("length".len());
+    let count = chunks.count;
+    print_to!(output, "{}: {count} {}\n", Shown::path(label), if count == 1 { "chunk" } else { "chunks" });
     if count > 0 {
         print_to!(output, "{:>wide$}  kind   type  channel  {:>wide$}\n", "start", "length");
     }
-    while let Some(ChunkHead { start, kind, data_type, channel, length, .. }) = reader.next_chunk()? {
-        print_to!(output, "{start:>wide$}  {kind:<5}  {data_type:>4}  {channel:>7}  {length:>wide$}\n");
+    let mut line = Vec::new();
+    while let Some(ChunkHead { start, kind, data_type, channel, length, .. }) = chunks.next()? {
+        line.clear();
+        put_number(&mut line, start, wide);
+        write!(line, "  {kind:<5}").map_err(Error::Output)?;
+        put_number(&mut line, data_type.into(), 6);
+        put_number(&mut line, channel.into(), 9);
+        put_number(&mut line, length, wide + 2);
+        line.push(b'\n');
+        output.write_all(&line).map_err(Error::Output)?;
     }
     Ok(())
 }
 
-fn print_lines(label: &Path, reader: &mut Reader<&mut Input>, mut csv: CsvLines) -> Result<(), Error> {
+/// A number at the right of its column. To format it, as the rest of a line, would take as long as to look at a chunk.
+fn put_number(line: &mut Vec<u8>, number: usize, wide: usize) {
+    let end = line.len() + wide.max(number.checked_ilog10().map_or(1, |digits| digits as usize + 1));
+    line.resize(end, b' ');
+    let mut rest = number;
+    for digit in line.iter_mut().rev() {
+        *digit = b'0' + (rest % 10) as u8;
+        rest /= 10;
+        if rest == 0 {
+            break;
+        }
+    }
+}
+
+fn print_lines(label: &Path, mut chunks: Chunks, mut csv: CsvLines) -> Result<(), Error> {
     let file = label.as_os_str().as_encoded_bytes();
-    while let Some(chunk) = reader.next_chunk()? {
+    while let Some(chunk) = chunks.next()? {
         let numbers =
             [field(chunk.start), field(chunk.kind), field(chunk.data_type), field(chunk.channel), field(chunk.length)];
         csv.line(std::iter::once(file.into()).chain(numbers))?;
@@ -108,19 +165,13 @@ struct Object<'a, 'r, 'i> {
 }
 
 /// Chunks, written one after the other.
-struct InOrder<'r, 'i>(RefCell<&'r mut Reader<&'i mut Input>>);
-
-impl<'r, 'i> InOrder<'r, 'i> {
-    fn of(reader: &'r mut Reader<&'i mut Input>) -> InOrder<'r, 'i> {
-        InOrder(RefCell::new(reader))
-    }
-}
+struct InOrder<'r, 'i>(RefCell<Chunks<'r, 'i>>);
 
 impl Serialize for InOrder<'_, '_> {
     fn serialize<S: Serializer>(&self, serializer: S) -> Result<S::Ok, S::Error> {
-        let mut reader = self.0.borrow_mut();
+        let mut chunks = self.0.borrow_mut();
         let mut sequence = serializer.serialize_seq(None)?;
-        while let Some(chunk) = reader.next_chunk().map_err(S::Error::custom)? {
+        while let Some(chunk) = chunks.next().map_err(S::Error::custom)? {
             sequence.serialize_element(&Record {
                 start: chunk.start,
                 kind: chunk.kind.to_string(),

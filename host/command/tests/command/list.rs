@@ -20,6 +20,31 @@ fn chunks_in_their_order() {
     assert!(folder.usm(&["list", "--no-audio", "song.usm"]).out.contains("\n  2080  audio     1        0       0\n"));
 }
 
+/// More chunks than are held while a film is looked at.
+#[test]
+fn many_chunks() {
+    let folder = Folder::new();
+    let mut film = Film::new(&Header::default());
+    let first = film.bytes.len();
+    const COUNT: usize = 140_000;
+    for number in 0..COUNT {
+        film.chunk(b"@SFV", 0, (number % 4) as u8, &[7; 32][..number % 33]);
+    }
+    folder.write("film.usm", &film.bytes);
+    let chunks = usm::list(&film.bytes, usm::Reading::default()).unwrap();
+    let wide = film.bytes.len().to_string().len();
+    let mut expected =
+        format!("film.usm: {COUNT} chunks\n{:>wide$}  kind   type  channel  {:>wide$}\n", "start", "length");
+    for chunk in &chunks {
+        let (start, data_type, length) = (chunk.start, chunk.data_type, chunk.payload.len());
+        expected += &format!("{start:>wide$}  video  {data_type:>4}  {:>7}  {length:>wide$}\n", 0);
+    }
+    assert_eq!(chunks.iter().next().unwrap().start, first);
+    let run = folder.usm(&["list", "film.usm"]);
+    assert!(run.out == expected, "the lists differ");
+    assert_eq!(folder.usm(&["list", "--csv", "film.usm"]).out.lines().count(), COUNT + 1);
+}
+
 #[test]
 fn audio_of_one_channel() {
     let folder = Folder::new();
