@@ -151,6 +151,7 @@ impl<'a, 'b> Row<'a, 'b> {
     /// The cells, one for each column.
     pub fn cells(self) -> impl ExactSizeIterator<Item = Cell<'a>> + use<'a, 'b> {
         // A table that is accepted has a cell in each column of each row.
-        (0..self.table.columns.len()).map(move |column| self.table.cell_at(column, self.number).unwrap_or(Cell::Unsigned(0)))
+        (0..self.table.columns.len())
+            .map(move |column| self.table.cell_at(column, self.number).unwrap_or(Cell::Unsigned(0)))
     }
 }
