@@ -93,7 +93,7 @@ fn put_moved(out: &mut [u8], container: &[u8], film: OldFilm, packing: Packing, 
 {
     let name = part::part_at(container, old_film::NAME, film.name);
     write::write(name, b"", b"", packing, out);
-    let start = frame - moved_film::ends_size(packing.audio);
+    let start = frame - write_plan::ends_size(packing.audio);
     let left = word::left_from(container, film.start);
     let chunks = part::part_at(container, film.start, left);
     let at = move_turns(out, start, chunks, Form::Old, Form::New, film.audio);

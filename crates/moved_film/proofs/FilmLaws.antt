@@ -22,11 +22,6 @@ header name packing = bytesOf (headerBlocks name packing)
 abbrev pub ends : Packing → List ℕ
 ends packing = bytesOf (endBlocks packing)
 
-pub ends-length : (audio : Bool) → length (bytesOf (inEach audio (λ stream. markerOf contentsEnd))) ≡ cond audio 0x80 0x40
-unfolding bytesOf blockOf headOf
-ends-length true = refl
-ends-length false = refl
-
 module _ (name : List ℕ) (packing : Packing) (k : packing .key ≡ Absent) where
   pub film-laid : (video audio : List ℕ) → filmBytes name video audio packing ≡ header name packing ++ (chunksOf New video audio ++ ends packing)
   unfolding filmBytes

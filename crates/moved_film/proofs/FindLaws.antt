@@ -19,7 +19,7 @@ use Rattle.write_blocks.specs.Blocks.{headOf, blockOf}
 use Rattle.write_blocks.specs.Tables.{tableHead, tableWith, nameTable}
 use Rattle.write_plan.specs.declared.Packing.{Packing}
 use Rattle.write_plan.specs.Films.{filmBytes}
-use Rattle.write_plan.proofs.LengthLaws.{head-length, table-length, block-length}
+use Rattle.write_plan.proofs.LengthLaws.{head-length, table-length, block-length, ends-length}
 use Rattle.turns.specs.declared.Form.the-variants.{New}
 use Rattle.turns.specs.declared.Turns.{Turns}
 use Rattle.turns.specs.Turns.{chunksOf, Read, readIn, turnsBy}
@@ -28,7 +28,7 @@ use Rattle.turns.proofs.ReadLaws.{read-whole}
 use Rattle.old_film.proofs.FindLaws.{closing}
 use Rattle.moved_film.specs.declared.Found.the-variants.{Film, Foreign}
 use Rattle.moved_film.specs.Finding.{partsAt, partsFrom, foundAs}
-use Rattle.moved_film.proofs.FilmLaws.{header, ends, ends-length, film-laid}
+use Rattle.moved_film.proofs.FilmLaws.{header, ends, film-laid}
 
 -- one piece, and what is known of the next
 then : (some others bytes : List ℕ) (place next : ℕ) (t : Bool) → place + length some ≡ next → standsAt others bytes next ≡ t

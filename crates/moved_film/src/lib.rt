@@ -57,16 +57,6 @@ const FIRST: usize = 0x60;
 // The size of the longest film without a name and without a payload.
 const FRAME: usize = 800;
 
-// How many bytes the ends of the streams take.
-pub fn ends_size(audio: bool) -> usize
-    ensures { λ r. ⌜ r ≡ length (bytesOf (inEach audio (λ stream. markerOf contentsEnd))) ⌝ }
-{
-    if audio {
-        return 0x80;
-    }
-    0x40
-}
-
 // One and the other.
 fn both(some: bool, other: bool) -> bool
     ensures { λ r. ⌜ r ≡ (some && other) ⌝ }
@@ -137,7 +127,7 @@ fn found_as(container: &[u8], name: &[u8], packing: Packing) -> Found
     let mut frame = [0u8; FRAME];
     match write::write(b"", b"", b"", packing, &mut frame) {
         Written::Size(size) => {
-            let ends = ends_size(packing.audio);
+            let ends = write_plan::ends_size(packing.audio);
             let cut = size - ends;
             let rest = part::part_at(&frame, FIRST, cut - FIRST);
             let last = part::part_at(&frame, cut, ends);

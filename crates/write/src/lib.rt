@@ -11,7 +11,7 @@ ghost use Rattle.write_blocks.specs.Blocks.{headOf, blockOf};
 ghost use Rattle.write_blocks.specs.Tables.{tableWith, codecTable};
 ghost use Rattle.write_plan.specs.Payloads.{storedAs};
 ghost use Rattle.write_plan.specs.Films.{lettersOf, bytesOf, inEach, codecIn, headerBlocks, nextChunk, chunkBlocks, filmBytes};
-ghost use Rattle.write.specs.Writing.{Writing};
+ghost use Rattle.write.specs.Writing.{Writing, HeaderWriting, HeadWriting, endsOf, EndsWriting};
 use codec::Codec;
 use lent::Written;
 use unmasking::Unmasking;
@@ -26,6 +26,9 @@ const CODEC: u8 = 0x54;
 
 // The bytes of a table beside its cell, its column's name and its data.
 const TABLE: usize = 38;
+
+// The bytes of a block's head.
+const HEAD: usize = 0x20;
 
 // ---- bytes into the output, from a place on; each answers where they end
 
@@ -302,6 +305,21 @@ fn put_chunks(
     at
 }
 
+// ---- the ends
+
+// Puts the end of each stream that there is, video first.
+fn put_ends(out: &mut [u8], at: usize, audio: bool) -> usize
+    requires { ⌜ at + length (endsOf audio) ≤ length (now out) ⌝ }
+    ensures { λ r. ⌜ Put (endsOf audio) (now (out .entry)) at (now (out .exit)) r ⌝ }
+{
+    put_each(
+        out,
+        at,
+        audio,
+        b"#CONTENTS END\0\0\0\0\0\0\0\0\0\0\0\0\0\0\0\0\0\0\0",
+    )
+}
+
 // ---- the film
 
 // Puts a film at the start of the output.
@@ -314,12 +332,7 @@ fn put_film(out: &mut [u8], name: &[u8], video: &[u8], audio: &[u8], packing: Pa
     let unmasking = unmasking::unmasking_of(key, codec);
     let at = put_header(out, name, packing);
     let at = put_chunks(out, at, video, audio, unmasking);
-    put_each(
-        out,
-        at,
-        packing.audio,
-        b"#CONTENTS END\0\0\0\0\0\0\0\0\0\0\0\0\0\0\0\0\0\0\0",
-    );
+    put_ends(out, at, packing.audio);
 }
 
 // Writes a film into an output, and answers its size. Bytes past it stay; a refusal leaves the output as it was.
@@ -332,6 +345,55 @@ pub fn write(name: &[u8], video: &[u8], audio: &[u8], packing: Packing, out: &mu
         Written::Size(size) => {
             let audio = write_plan::audio_in(packing, audio);
             put_film(out, name, video, audio, packing);
+            Written::Size(size)
+        }
+        Written::Refused(refusal) => Written::Refused(refusal),
+    }
+}
+
+// ---- the pieces of a film that hold no payload, each at the start of an output of its own
+
+// Writes the header of a film whose streams have these lengths, and answers its size. Where there is no audio, its length is not looked at.
+pub fn write_header(
+    name: &[u8],
+    video: usize,
+    audio: usize,
+    packing: Packing,
+    out: &mut [u8],
+) -> Written
+    ensures { λ r. ⌜ HeaderWriting (now (name .entry)) video audio packing (now (out .entry)) r (now (out .exit)) ⌝ }
+{
+    let planned = write_plan::plan_header(name.len(), video, audio, packing);
+    match lent::written_in(out.len(), planned) {
+        Written::Size(size) => {
+            put_header(out, name, packing);
+            Written::Size(size)
+        }
+        Written::Refused(refusal) => Written::Refused(refusal),
+    }
+}
+
+// Writes the head of a chunk whose payload has `len` bytes, and answers its size.
+pub fn write_head(stream: Stream, len: u32, out: &mut [u8]) -> Written
+    ensures { λ r. ⌜ HeadWriting stream len (now (out .entry)) r (now (out .exit)) ⌝ }
+{
+    match lent::written_in(out.len(), Written::Size(HEAD)) {
+        Written::Size(size) => {
+            put_head(out, 0, letters_of(stream), len as usize);
+            Written::Size(size)
+        }
+        Written::Refused(refusal) => Written::Refused(refusal),
+    }
+}
+
+// Writes the ends of the streams, with audio or without, and answers their size.
+pub fn write_ends(audio: bool, out: &mut [u8]) -> Written
+    ensures { λ r. ⌜ EndsWriting audio (now (out .entry)) r (now (out .exit)) ⌝ }
+{
+    let planned = Written::Size(write_plan::ends_size(audio));
+    match lent::written_in(out.len(), planned) {
+        Written::Size(size) => {
+            put_ends(out, 0, audio);
             Written::Size(size)
         }
         Written::Refused(refusal) => Written::Refused(refusal),

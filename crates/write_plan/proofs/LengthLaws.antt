@@ -22,7 +22,7 @@ use Rattle.write_plan.specs.declared.Stream.the-variants.{Video, Audio}
 use Rattle.write_plan.specs.declared.Packing.{Packing}
 use Rattle.write_plan.specs.Payloads.{cut, payloadsOf, storedAs, byTurns}
 use Rattle.write_plan.specs.Films.{Block, bytesOf, lettersOf, blockIn, inEach, codecIn, headerBlocks, chunksOf, chunkBlocks, filmBytes}
-use Rattle.write_plan.specs.Sizes.{blockSize, codecSize, streamSize, filmSize}
+use Rattle.write_plan.specs.Sizes.{blockSize, codecSize, endsSize, headerSize, streamSize, filmSize}
 use Rattle.write_plan.proofs.PayloadLaws.{stored-length}
 use Rattle.write_plan.proofs.BlockLaws.{header-bytes}
 
@@ -127,13 +127,13 @@ same-long : (audio : Bool) (inside : List ℕ) → length inside ≡ 0x20 → Lo
 same-long audio inside e = each-long audio (λ stream. inside) (block-length SFV inside ∙ ap blockSize e) (block-length SFA inside ∙ ap blockSize e)
 
 module _ (name : List ℕ) (packing : Packing) where
-  abbrev headerSize : ℕ
-  headerSize =
+  abbrev blocksSize : ℕ
+  blocksSize =
       blockSize (54 + length name)
       + ((codecSize (packing .«mpeg_codec») + cond (packing .audio) (codecSize (packing .«audio_codec»)) 0)
       + ((0x40 + cond (packing .audio) 0x40 0) + ((0x40 + cond (packing .audio) 0x40 0) + (0x40 + cond (packing .audio) 0x40 0))))
 
-  header-long : Long (bytesOf (headerBlocks name packing)) headerSize
+  header-long : Long (bytesOf (headerBlocks name packing)) blocksSize
   header-long =
       long (bytesOf (headerBlocks name packing))
       (ap length (header-bytes name packing)
@@ -143,6 +143,24 @@ module _ (name : List ℕ) (packing : Packing) where
       (codec-length audioCodec (omega arith) (omega arith) SFA (packing .«audio_codec»)))
       (both (same-long (packing .audio) (markerOf headerEnd) refl)
       (both (same-long (packing .audio) emptyTable refl) (same-long (packing .audio) (markerOf metadataEnd) refl)))) .is)
+
+-- the ends of the streams
+pub ends-length : (audio : Bool) → length (bytesOf (inEach audio (λ stream. markerOf contentsEnd))) ≡ endsSize audio
+ends-length true = same-long true (markerOf contentsEnd) refl .is
+ends-length false = same-long false (markerOf contentsEnd) refl .is
+
+-- a film's header: all blocks that hold no payload but the ends
+header-sum : (audio : Bool) (name video other : ℕ)
+    → name + ((video + cond audio other 0) + ((0x40 + cond audio 0x40 0) + ((0x40 + cond audio 0x40 0) + (0x40 + cond audio 0x40 0))))
+    ≡ name + (cond audio (video + other + 8 * 0x40) (video + 4 * 0x40) - endsSize audio)
+header-sum true name video other = omega arith
+header-sum false name video other = omega arith
+
+pub header-length : (name : List ℕ) (packing : Packing) → length (bytesOf (headerBlocks name packing)) ≡ headerSize (length name) packing
+unfolding headerSize
+header-length name packing =
+    header-long name packing .is
+    ∙ header-sum (packing .audio) (blockSize (54 + length name)) (codecSize (packing .«mpeg_codec»)) (codecSize (packing .«audio_codec»))
 
 frame-sum : (audio : Bool) (name streams video other : ℕ)
     → name + ((video + cond audio other 0) + ((0x40 + cond audio 0x40 0) + ((0x40 + cond audio 0x40 0) + (0x40 + cond audio 0x40 0)))) + (streams + (0x40 + cond audio 0x40 0))

@@ -9,19 +9,19 @@ use lib.Seq.{take-all}
 use lib.Dec.{ltb}
 use borrow.Author.Tests.{lt-ltb, le-ltb, ltb-false}
 use Rattle.refusal.specs.declared.Cause.{Cause}
+use Rattle.refusal.specs.declared.Refusal.{Refusal}
 use Rattle.refusal.specs.declared.Cause.the-variants.{TooLong, MarkedPayload, CodecAlone}
 use Rattle.signature.specs.Signatures.{contentsEnd, sameBytes, standsAt}
 use Rattle.lent.specs.declared.Written.{Written}
 use Rattle.lent.specs.declared.Written.the-variants as written
 use Rattle.write_plan.specs.declared.Packing.{Packing}
-use Rattle.write_plan.specs.declared.Measured.the-variants.{Over, Size}
 use Rattle.write_plan.specs.Payloads.{payloadsOf}
 use Rattle.write_plan.specs.Films.{filmBytes}
 use Rattle.write_plan.specs.Sizes.{filmSize}
-use Rattle.write_plan.specs.Planning.{isGiven, anyMarked, measuredIn, refusedBy, plannedOf}
+use Rattle.write_plan.specs.Planning.{isGiven, anyMarked, refusedBy, withinLimit, sizedOf, headedBy, markedBy, plannedOf}
 use Rattle.write_plan.proofs.PayloadLaws.{payloads-none, payloads-more}
 use Rattle.write_plan.proofs.LengthLaws.{film-length}
-use Rattle.write_plan.proofs.SizeLaws.{film-holds}
+use Rattle.write_plan.proofs.SizeLaws.{sizes-hold}
 
 -- ---- a payload
 
@@ -54,75 +54,99 @@ unmarked-last stream e h = unmarked-more stream e ∙ rw (drop-of-length-le stre
 
 -- ---- the size
 
-over-limit : (n : ℕ) → 0x40000000 < n → Over ≡ measuredIn n
+over-limit : (n : ℕ) → 0x40000000 < n → refusedBy TooLong ≡ withinLimit n
 over-limit n h = rw (lt-ltb 0x40000000 n h)
 
-module _ (name video audio : List ℕ) (packing : Packing) where
-  abbrev size : ℕ
-  size = length (filmBytes name video audio packing)
+module _ (name video audio : ℕ) (packing : Packing) where
+  pub name-over : 0x40000000 < name → refusedBy TooLong ≡ withinLimit (filmSize name video audio packing)
+  name-over h = over-limit (filmSize name video audio packing) (omega (arith, sizes-hold name video audio packing))
 
-  pub name-over : 0x40000000 < length name → Over ≡ measuredIn size
-  name-over h = over-limit size (omega (arith, film-holds name video audio packing))
+  pub video-over : 0x40000000 < video → refusedBy TooLong ≡ withinLimit (filmSize name video audio packing)
+  video-over h = over-limit (filmSize name video audio packing) (omega (arith, sizes-hold name video audio packing))
 
-  pub video-over : 0x40000000 < length video → Over ≡ measuredIn size
-  video-over h = over-limit size (omega (arith, film-holds name video audio packing))
+  pub audio-over : 0x40000000 < audio → refusedBy TooLong ≡ withinLimit (filmSize name video audio packing)
+  audio-over h = over-limit (filmSize name video audio packing) (omega (arith, sizes-hold name video audio packing))
 
-  pub audio-over : 0x40000000 < length audio → Over ≡ measuredIn size
-  audio-over h = over-limit size (omega (arith, film-holds name video audio packing))
+  module _ (n : ℕ) (e : n ≡ filmSize name video audio packing) where
+    pub film-over : 0x40000000 < n → refusedBy TooLong ≡ withinLimit (filmSize name video audio packing)
+    film-over h = over-limit (filmSize name video audio packing) (omega arith)
 
-  module _ (n : ℕ) (e : n ≡ filmSize (length name) (length video) (length audio) packing) where
-    pub film-over : 0x40000000 < n → Over ≡ measuredIn size
-    film-over h = over-limit size (omega (arith, film-length name video audio packing))
+    pub film-within : n ≤ 0x40000000 → written.Size n ≡ withinLimit (filmSize name video audio packing)
+    film-within h = rw (le-ltb 0x40000000 (filmSize name video audio packing) (omega arith)) (ap written.Size e)
 
-    pub film-within : n ≤ 0x40000000 → Size n ≡ measuredIn size
-    film-within h =
-        let f : n ≡ size = e ∙ sym (film-length name video audio packing) in
-        rw (le-ltb 0x40000000 size (omega arith)) (ap Size f)
-
-tested-over : (t : Bool) (n : ℕ) → cond t Over (Size n) ≡ Over → t ≡ true
-tested-over true n e = refl
-tested-over false n e = let z : _≡_ {A = ℕ} 0 1 = cc in absurd (omega arith)
-
-tested-size : (t : Bool) (n m : ℕ) → cond t Over (Size n) ≡ Size m → (t ≡ false) × (n ≡ m)
-tested-size true n m e = let z : _≡_ {A = ℕ} 0 1 = cc in absurd (omega arith)
-tested-size false n m e = (refl, cc)
-
--- ---- the plan
-
-module _ (name video audio : List ℕ) (packing : Packing) where
   abbrev alone : Bool
   alone = not (packing .audio) && isGiven (packing .«audio_codec»)
 
-  pub plan-alone : alone ≡ true → refusedBy CodecAlone ≡ plannedOf name video audio packing
-  unfolding plannedOf
-  plan-alone e = rw e
+  pub sized-alone : alone ≡ true → refusedBy CodecAlone ≡ sizedOf name video audio packing
+  unfolding sizedOf
+  sized-alone e = rw e
 
-  module _ (e : alone ≡ false) where
-    pub plan-over : measuredIn (size name video audio packing) ≡ Over → refusedBy TooLong ≡ plannedOf name video audio packing
-    unfolding plannedOf
-    plan-over m = rw (e, tested-over (ltb 0x40000000 (size name video audio packing)) (size name video audio packing) m)
+  pub sized-given : alone ≡ false → withinLimit (filmSize name video audio packing) ≡ sizedOf name video audio packing
+  unfolding sizedOf
+  sized-given e = rw e
 
-    module _ (n : ℕ) (m : measuredIn (size name video audio packing) ≡ Size n) where
-      abbrev measured : (ltb 0x40000000 (size name video audio packing) ≡ false) × (size name video audio packing ≡ n)
-      measured = tested-size (ltb 0x40000000 (size name video audio packing)) (size name video audio packing) n m
+-- ---- the plan
 
-      pub plan-video : anyMarked (payloadsOf video) ≡ true → refusedBy MarkedPayload ≡ plannedOf name video audio packing
-      unfolding plannedOf
-      plan-video v = rw (e, measured .0, v)
+-- 15 is asked last
+asked-last : (alone over marked : Bool) (n : ℕ)
+    → cond alone (refusedBy CodecAlone) (cond over (refusedBy TooLong) (cond marked (refusedBy MarkedPayload) (written.Size n)))
+    ≡ markedBy marked (cond alone (refusedBy CodecAlone) (cond over (refusedBy TooLong) (written.Size n)))
+asked-last true over marked n = refl
+asked-last false true marked n = refl
+asked-last false false marked n = refl
 
-      pub plan-audio : anyMarked (payloadsOf video) ≡ false → anyMarked (payloadsOf audio) ≡ true → refusedBy MarkedPayload ≡ plannedOf name video audio packing
-      unfolding plannedOf
-      plan-audio v a = rw (e, measured .0, v, a)
+-- what is planned of a film's bytes, by their lengths and by whether a payload is marked
+pub planned-by : (name video audio : List ℕ) (packing : Packing)
+    → plannedOf name video audio packing
+    ≡ markedBy (anyMarked (payloadsOf video) || anyMarked (payloadsOf audio)) (sizedOf (length name) (length video) (length audio) packing)
+unfolding plannedOf sizedOf
+planned-by name video audio packing =
+    rw (film-length name video audio packing)
+    (asked-last (not (packing .audio) && isGiven (packing .«audio_codec»)) (ltb 0x40000000 (filmSize (length name) (length video) (length audio) packing))
+    (anyMarked (payloadsOf video) || anyMarked (payloadsOf audio)) (filmSize (length name) (length video) (length audio) packing))
 
-      pub plan-size : anyMarked (payloadsOf video) ≡ false → anyMarked (payloadsOf audio) ≡ false → written.Size n ≡ plannedOf name video audio packing
-      unfolding plannedOf
-      plan-size v a = rw (e, measured .0, v, a) (ap written.Size (sym (measured .1)))
+module _ (name video audio : List ℕ) (packing : Packing) (planned : Written) (e : planned ≡ sizedOf (length name) (length video) (length audio) packing) where
+  by-marks : (marked : Bool) → (anyMarked (payloadsOf video) || anyMarked (payloadsOf audio)) ≡ marked → markedBy marked planned ≡ plannedOf name video audio packing
+  by-marks marked m = sym (planned-by name video audio packing ∙ rw (m, e))
 
--- ---- a film that is planned
+  pub plan-refused : (refusal : Refusal) → planned ≡ written.Refused refusal → written.Refused refusal ≡ plannedOf name video audio packing
+  plan-refused refusal f = rw (← by-marks _ refl, f)
+
+  module _ (n : ℕ) (f : planned ≡ written.Size n) where
+    pub plan-video : anyMarked (payloadsOf video) ≡ true → refusedBy MarkedPayload ≡ plannedOf name video audio packing
+    plan-video v = rw (← by-marks true (rw v), f)
+
+    pub plan-audio : anyMarked (payloadsOf video) ≡ false → anyMarked (payloadsOf audio) ≡ true → refusedBy MarkedPayload ≡ plannedOf name video audio packing
+    plan-audio v a = rw (← by-marks true (rw (v, a)), f)
+
+    pub plan-size : anyMarked (payloadsOf video) ≡ false → anyMarked (payloadsOf audio) ≡ false → written.Size n ≡ plannedOf name video audio packing
+    plan-size v a = rw (← by-marks false (rw (v, a)), f)
+
+-- ---- a header that is planned
 
 tested : (t : Bool) (cause : Cause) (p : Written) (n : ℕ) → cond t (refusedBy cause) p ≡ written.Size n → (t ≡ false) × (p ≡ written.Size n)
 tested true cause p n e = let z : _≡_ {A = ℕ} 0 1 = cc in absurd (omega arith)
 tested false cause p n e = (refl, e)
+
+-- the size that is planned
+abbrev filmIn : Written → ℕ
+filmIn (written.Size n) = n
+filmIn (written.Refused refusal) = 0
+
+-- its film is within the limit, and so is its name
+pub sized-fits : (name video audio : ℕ) (packing : Packing) (n : ℕ) → sizedOf name video audio packing ≡ written.Size n → name ≤ 0x40000000
+unfolding sizedOf
+sized-fits name video audio packing n e =
+    let film = filmSize name video audio packing in
+    let a = tested (not (packing .audio) && isGiven (packing .«audio_codec»)) CodecAlone _ n e in
+    let b = tested (ltb 0x40000000 film) TooLong _ n (a .1) in
+    omega (arith, ltb-false 0x40000000 film (b .0), sizes-hold name video audio packing)
+
+pub headed-so : (size : ℕ) (planned : Written) (n : ℕ) → headedBy size planned ≡ written.Size n → (planned ≡ written.Size (filmIn planned)) × (size ≡ n)
+headed-so size (written.Size film) n e = (refl, cc)
+headed-so size (written.Refused refusal) n e = let z : _≡_ {A = ℕ} 0 1 = cc in absurd (omega arith)
+
+-- ---- a film that is planned
 
 -- its size is its length, and within the limit; no payload begins with the marker, and no codec is alone
 pub record Accepted (name video audio : List ℕ) (packing : Packing) (n : ℕ) : Type 0 where

@@ -13,11 +13,9 @@ use Rattle.codec.specs.declared.Codec.the-variants.{Value, Absent}
 use Rattle.lent.specs.declared.Written.{Written}
 use Rattle.lent.specs.declared.Written.the-variants.{Size, Refused}
 use Rattle.write_plan.specs.declared.Packing.{Packing}
-use Rattle.write_plan.specs.declared.Measured.{Measured}
-use Rattle.write_plan.specs.declared.Measured.the-variants.{Over}
-use Rattle.write_plan.specs.declared.Measured.the-variants as measured
 use Rattle.write_plan.specs.Payloads.{payloadsOf}
 use Rattle.write_plan.specs.Films.{filmBytes}
+use Rattle.write_plan.specs.Sizes.{filmSize}
 
 -- "15, 16 and 19 to 23 have place 0", and so has 11
 abbrev pub refusedBy : Cause → Written
@@ -34,8 +32,22 @@ anyMarked [] = false
 anyMarked (payload ∷ payloads) = standsAt contentsEnd payload 0 || anyMarked payloads
 
 -- a film of so many bytes, or that it is "over the limit": "container 1,073,741,824 bytes"
-abbrev pub measuredIn : ℕ → Measured
-measuredIn size = cond (ltb 0x40000000 size) Over (measured.Size size)
+abbrev pub withinLimit : ℕ → Written
+withinLimit size = cond (ltb 0x40000000 size) (refusedBy TooLong) (Size size)
+
+-- a film's size by the lengths of its name and streams, or the first refusal, whatever they hold: 23, then 11
+unfoldable pub sizedOf : ℕ → ℕ → ℕ → Packing → Written
+sizedOf name video audio packing = cond (not (packing .audio) && isGiven (packing .«audio_codec»)) (refusedBy CodecAlone) (withinLimit (filmSize name video audio packing))
+
+-- so many bytes of it, where the film is not refused
+abbrev pub headedBy : ℕ → Written → Written
+headedBy size (Size film) = Size size
+headedBy size (Refused refusal) = Refused refusal
+
+-- 15 comes after them, where a payload is marked
+abbrev pub markedBy : Bool → Written → Written
+markedBy marked (Size film) = cond marked (refusedBy MarkedPayload) (Size film)
+markedBy marked (Refused refusal) = Refused refusal
 
 -- a film's size, or the first refusal
 unfoldable pub plannedOf : List ℕ → List ℕ → List ℕ → Packing → Written

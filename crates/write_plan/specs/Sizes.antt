@@ -1,6 +1,6 @@
 -- How long a film is, by the lengths of what it is made of. It serves the contracts of what measures; the rules do not name it, and speak of the film's own length.
-use Prim.Native.Nat.{ℕ, _+_, _*_, _/_, _%_}
-use mathlib.Core.Bool.{cond}
+use Prim.Native.Nat.{ℕ, _+_, _-_, _*_, _/_, _%_}
+use mathlib.Core.Bool.{Bool, cond}
 use lib.Dec.{eqb}
 use Rattle.codec.specs.declared.Codec.{Codec}
 use Rattle.codec.specs.declared.Codec.the-variants.{Value, Absent}
@@ -20,6 +20,14 @@ codecSize Absent = 0x40
 abbrev pub frameSize : Packing → ℕ
 frameSize packing = cond (packing .audio) (codecSize (packing .«mpeg_codec») + codecSize (packing .«audio_codec») + 8 * 0x40) (codecSize (packing .«mpeg_codec») + 4 * 0x40)
 
+-- of them, those that end the streams
+abbrev pub endsSize : Bool → ℕ
+endsSize audio = cond audio 0x80 0x40
+
+-- the header: its name's table has 54 bytes beside the name
+unfoldable pub headerSize : ℕ → Packing → ℕ
+headerSize name packing = blockSize (54 + name) + (frameSize packing - endsSize (packing .audio))
+
 -- the last payload, if it is shorter
 abbrev pub lastSize : ℕ → ℕ
 lastSize n = cond (eqb n 0) 0 (blockSize n)
@@ -28,6 +36,10 @@ lastSize n = cond (eqb n 0) 0 (blockSize n)
 unfoldable pub streamSize : ℕ → ℕ
 streamSize n = n / 0x10000 * 0x10020 + lastSize (n % 0x10000)
 
--- a film: its name's table has 54 bytes beside the name
+-- a film
 unfoldable pub filmSize : ℕ → ℕ → ℕ → Packing → ℕ
 filmSize name video audio packing = blockSize (54 + name) + frameSize packing + (streamSize video + streamSize audio)
+
+-- the size of the audio that there is
+abbrev pub sizeIn : Packing → ℕ → ℕ
+sizeIn packing audio = cond (packing .audio) audio 0

@@ -6,9 +6,11 @@ ghost use Prim.Native.Nat.{_<_, _^_};
 ghost use lib.ListN.{length, take, drop};
 ghost use Rattle.part.specs.Parts.{IsPart};
 ghost use Rattle.write_plan.specs.Payloads.{payloadsOf, payloadStart};
-ghost use Rattle.write_plan.specs.Films.{audioIn, filmBytes};
-ghost use Rattle.write_plan.specs.Sizes.{blockSize, codecSize, frameSize, lastSize, streamSize, filmSize};
-ghost use Rattle.write_plan.specs.Planning.{isGiven, anyMarked, measuredIn, refusedBy, plannedOf};
+ghost use Rattle.signature.specs.Signatures.{contentsEnd};
+ghost use Rattle.write_blocks.specs.Tables.{markerOf};
+ghost use Rattle.write_plan.specs.Films.{bytesOf, inEach, audioIn};
+ghost use Rattle.write_plan.specs.Sizes.{blockSize, codecSize, frameSize, headerSize, lastSize, streamSize, filmSize, sizeIn};
+ghost use Rattle.write_plan.specs.Planning.{isGiven, anyMarked, refusedBy, withinLimit, sizedOf, headedBy, plannedOf};
 use codec::Codec;
 use lent::Written;
 use refusal::Cause;
@@ -30,12 +32,6 @@ pub struct Packing {
 pub enum Stream {
     Video,
     Audio,
-}
-
-// How long a film would be.
-enum Measured {
-    Size(usize),
-    Over,
 }
 
 // The size of a block that holds `len` bytes.
@@ -68,6 +64,24 @@ fn frame_size(packing: Packing) -> usize
     codec_size(video) + 4 * 0x40
 }
 
+// How many bytes the ends of the streams take.
+pub fn ends_size(audio: bool) -> usize
+    ensures { λ r. ⌜ r ≡ length (bytesOf (inEach audio (λ stream. markerOf contentsEnd))) ⌝ }
+{
+    if audio {
+        return 0x80;
+    }
+    0x40
+}
+
+// The size of the header, by the length of the name.
+fn header_size(name: usize, packing: Packing) -> usize
+    requires { ⌜ name < 2 ^ 31 ⌝ }
+    ensures { λ r. ⌜ r ≡ headerSize name packing ⌝ }
+{
+    block_size(54 + name) + (frame_size(packing) - ends_size(packing.audio))
+}
+
 // The size of a stream's last chunk, whose payload has `len` bytes; without a byte there is none.
 fn last_size(len: usize) -> usize
     requires { ⌜ len < 2 ^ 32 ⌝ }
@@ -93,26 +107,6 @@ fn film_size(name: usize, video: usize, audio: usize, packing: Packing) -> usize
     ensures { λ r. ⌜ r ≡ filmSize name video audio packing ⌝ }
 {
     block_size(54 + name) + frame_size(packing) + (stream_size(video) + stream_size(audio))
-}
-
-// The size of a film, or that it is over the limit.
-fn measure(name: &[u8], video: &[u8], audio: &[u8], packing: Packing) -> Measured
-    ensures { λ r. ⌜ r ≡ measuredIn (length (filmBytes (now (name .entry)) (now (video .entry)) (now (audio .entry)) packing)) ⌝ }
-{
-    if LONGEST < name.len() {
-        return Measured::Over;
-    }
-    if LONGEST < video.len() {
-        return Measured::Over;
-    }
-    if LONGEST < audio.len() {
-        return Measured::Over;
-    }
-    let size = film_size(name.len(), video.len(), audio.len(), packing);
-    if LONGEST < size {
-        return Measured::Over;
-    }
-    Measured::Size(size)
 }
 
 // The payload that begins at a byte of a stream; past its end there is none.
@@ -176,17 +170,63 @@ fn refused(cause: Cause) -> Written
     Written::Refused(Refusal { cause, place: 0 })
 }
 
-// The size of a film, or why it is refused whatever the output. Where there is no audio, `audio` is not looked at.
-pub fn plan(name: &[u8], video: &[u8], audio: &[u8], packing: Packing) -> Written
-    ensures { λ r. ⌜ r ≡ plannedOf (now (name .entry)) (now (video .entry)) (audioIn packing (now (audio .entry))) packing ⌝ }
+// The size of a film by the lengths of its name and streams, or that it is over the limit.
+fn within_limit(name: usize, video: usize, audio: usize, packing: Packing) -> Written
+    ensures { λ r. ⌜ r ≡ withinLimit (filmSize name video audio packing) ⌝ }
+{
+    if LONGEST < name {
+        return refused(Cause::TooLong);
+    }
+    if LONGEST < video {
+        return refused(Cause::TooLong);
+    }
+    if LONGEST < audio {
+        return refused(Cause::TooLong);
+    }
+    let size = film_size(name, video, audio, packing);
+    if LONGEST < size {
+        return refused(Cause::TooLong);
+    }
+    Written::Size(size)
+}
+
+// The size of a film by the lengths of its name and streams, or why it is refused whatever they hold.
+fn plan_sizes(name: usize, video: usize, audio: usize, packing: Packing) -> Written
+    ensures { λ r. ⌜ r ≡ sizedOf name video audio packing ⌝ }
 {
     if is_alone(packing) {
         return refused(Cause::CodecAlone);
     }
+    within_limit(name, video, audio, packing)
+}
+
+// The size of the audio that there is.
+pub fn audio_size(packing: Packing, audio: usize) -> usize
+    ensures { λ r. ⌜ r ≡ sizeIn packing audio ⌝ }
+{
+    if packing.audio {
+        return audio;
+    }
+    0
+}
+
+// The size of the header of a film by the lengths of its name and streams, or why the film is refused whatever they hold.
+pub fn plan_header(name: usize, video: usize, audio: usize, packing: Packing) -> Written
+    ensures { λ r. ⌜ r ≡ headedBy (headerSize name packing) (sizedOf name video (sizeIn packing audio) packing) ⌝ }
+{
+    match plan_sizes(name, video, audio_size(packing, audio), packing) {
+        Written::Size(_) => Written::Size(header_size(name, packing)),
+        Written::Refused(refusal) => Written::Refused(refusal),
+    }
+}
+
+// The size of a film, or why it is refused whatever the output. Where there is no audio, `audio` is not looked at.
+pub fn plan(name: &[u8], video: &[u8], audio: &[u8], packing: Packing) -> Written
+    ensures { λ r. ⌜ r ≡ plannedOf (now (name .entry)) (now (video .entry)) (audioIn packing (now (audio .entry))) packing ⌝ }
+{
     let audio = audio_in(packing, audio);
-    match measure(name, video, audio, packing) {
-        Measured::Over => refused(Cause::TooLong),
-        Measured::Size(size) => {
+    match plan_sizes(name.len(), video.len(), audio.len(), packing) {
+        Written::Size(size) => {
             if any_marked(video) {
                 return refused(Cause::MarkedPayload);
             }
@@ -195,5 +235,6 @@ pub fn plan(name: &[u8], video: &[u8], audio: &[u8], packing: Packing) -> Writte
             }
             Written::Size(size)
         }
+        Written::Refused(refusal) => Written::Refused(refusal),
     }
 }

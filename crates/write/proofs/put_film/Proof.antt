@@ -21,16 +21,13 @@ put-chunks-requires c κs =
     let start = by .before .before .before .before .before in
     (rw (by .unmasking-of .ensures) (chunks-fit (start .args .name .now) (start .args .video .now) (start .args .audio .now) (start .args .packing) (start .args .out .now) (start .pre .0) (headed .put-header .ensures)), omega (arith, start .pre .1, film-holds (start .args .name .now) (start .args .video .now) (start .args .audio .now) (start .args .packing)), omega (arith, start .pre .1, film-holds (start .args .name .now) (start .args .video .now) (start .args .audio .now) (start .args .packing)))
 
-slice-aggregate-put-each : tie.Need-slice-aggregate-put-each
-slice-aggregate-put-each c = search needs
-
-put-each-requires : tie.Need-put-each-requires
-put-each-requires c κs =
-    let filled = c .before .before .before .before in
+put-ends-requires : tie.Need-put-ends-requires
+put-ends-requires c κs =
+    let filled = c .before .before .before in
     let headed = filled .before .before .before .before in
     let by = headed .before .before in
     let start = by .before .before .before .before .before in
-    (end-fits (start .args .name .now) (start .args .video .now) (start .args .audio .now) (start .args .packing) (start .args .out .now) (start .pre .0) (headed .put-header .ensures) (rw (by .unmasking-of .ensures) at (filled .put-chunks .ensures)), omega arith)
+    end-fits (start .args .name .now) (start .args .video .now) (start .args .audio .now) (start .args .packing) (start .args .out .now) (start .pre .0) (headed .put-header .ensures) (rw (by .unmasking-of .ensures) at (filled .put-chunks .ensures))
 
 same-length : tie.Need-same-length
 same-length c = search needs
@@ -38,11 +35,11 @@ same-length c = search needs
 returns : tie.Need-returns
 returns c =
     let ended = c .before .before in
-    let filled = ended .before .before .before .before .before in
+    let filled = ended .before .before .before .before in
     let headed = filled .before .before .before .before in
     let by = headed .before .before in
     let start = by .before .before .before .before .before in
-    film-put (start .args .name .now) (start .args .video .now) (start .args .audio .now) (start .args .packing) (start .args .out .now) (start .pre .0) (headed .put-header .ensures) (rw (by .unmasking-of .ensures) at (filled .put-chunks .ensures)) (ended .put-each .ensures)
+    film-put (start .args .name .now) (start .args .video .now) (start .args .audio .now) (start .args .packing) (start .args .out .now) (start .pre .0) (headed .put-header .ensures) (rw (by .unmasking-of .ensures) at (filled .put-chunks .ensures)) (ended .put-ends .ensures)
 
 pub put-film-spec : {M : Type 1} → statement M
 put-film-spec =
@@ -51,7 +48,6 @@ put-film-spec =
     unmasking-of-requires
     put-header-requires
     put-chunks-requires
-    slice-aggregate-put-each
-    put-each-requires
+    put-ends-requires
     same-length
     returns)
