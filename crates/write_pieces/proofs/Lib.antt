@@ -1,0 +1,5 @@
+pub mod TurnLaws
+pub mod WalkLaws
+pub mod FilmLaws
+pub mod OneAnswer
+pub mod Promises

@@ -1,0 +1,4 @@
+pub mod Turns
+pub mod Storing
+pub mod TurnReplies
+pub mod Promises
