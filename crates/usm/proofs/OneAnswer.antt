@@ -31,6 +31,10 @@ use Rattle.usm.proofs.keys.usm_payload_bits.Reads as usm-payload-bits
 use Rattle.usm.proofs.stepping.usm_open.Reads as usm-open
 use Rattle.usm.proofs.stepping.usm_step.Reads as usm-step
 use Rattle.usm.proofs.stepping.usm_clear.Reads as usm-clear
+use Rattle.usm.proofs.putting.usm_write_open.Reads as usm-write-open
+use Rattle.usm.proofs.putting.usm_write_chunk.Reads as usm-write-chunk
+use Rattle.usm.proofs.putting.usm_write_payload.Reads as usm-write-payload
+use Rattle.usm.proofs.putting.usm_write_end.Reads as usm-write-end
 
 pub usm-table-once : (κs : _) (args : _) (r r′ : _) (exit exit′ : _) → usm-table.Learnt κs args r exit → usm-table.Learnt κs args r′ exit′ → r ≡ r′
 usm-table-once κs args r r′ exit exit′ = no-second-answer
@@ -123,3 +127,19 @@ usm-column-once κs args r r′ exit exit′ = no-second-answer
 
 pub usm-cell-at-once : (κs : _) (args : _) (r r′ : _) (exit exit′ : _) → usm-cell-at.Learnt κs args r exit → usm-cell-at.Learnt κs args r′ exit′ → r ≡ r′
 usm-cell-at-once κs args r r′ exit exit′ = no-second-answer
+
+pub usm-write-open-once : (κs : _) (args : _) (r r′ : _) (exit exit′ : _) → usm-write-open.Learnt κs args r exit → usm-write-open.Learnt κs args r′ exit′
+    → (r ≡ r′) × (exit .1 .1 .1 .1 .0 .now ≡ exit′ .1 .1 .1 .1 .0 .now)
+usm-write-open-once κs args r r′ exit exit′ l l′ = (no-second-answer (l .0) (l′ .0), no-second-answer (l .1) (l′ .1))
+
+pub usm-write-chunk-once : (κs : _) (args : _) (r r′ : _) (exit exit′ : _) → usm-write-chunk.Learnt κs args r exit → usm-write-chunk.Learnt κs args r′ exit′
+    → (r ≡ r′) × (exit .1 .1 .1 .1 .0 .now ≡ exit′ .1 .1 .1 .1 .0 .now)
+usm-write-chunk-once κs args r r′ exit exit′ l l′ = (no-second-answer (l .0) (l′ .0), no-second-answer (l .1) (l′ .1))
+
+pub usm-write-payload-once : (κs : _) (args : _) (r r′ : _) (exit exit′ : _) → usm-write-payload.Learnt κs args r exit → usm-write-payload.Learnt κs args r′ exit′
+    → (r ≡ r′) × (exit .1 .1 .0 .now ≡ exit′ .1 .1 .0 .now)
+usm-write-payload-once κs args r r′ exit exit′ l l′ = (no-second-answer (l .0) (l′ .0), no-second-answer (l .1) (l′ .1))
+
+pub usm-write-end-once : (κs : _) (args : _) (r r′ : _) (exit exit′ : _) → usm-write-end.Learnt κs args r exit → usm-write-end.Learnt κs args r′ exit′
+    → (r ≡ r′) × (exit .1 .0 .now ≡ exit′ .1 .0 .now)
+usm-write-end-once κs args r r′ exit exit′ l l′ = (no-second-answer (l .0) (l′ .0), no-second-answer (l .1) (l′ .1))

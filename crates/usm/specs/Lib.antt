@@ -1,5 +1,6 @@
 pub mod Exports
 pub mod Writes
+pub mod Pieces
 pub mod Moves
 pub mod Tables
 pub mod Steps

@@ -5,6 +5,7 @@ mod keys;
 pub mod moving;
 mod partings;
 mod profiles;
+mod putting;
 mod salvaging;
 mod stating;
 mod stepping;

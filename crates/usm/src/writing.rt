@@ -17,7 +17,7 @@ pub struct PackingBytes {
 }
 
 // What C asks for.
-fn packing_by(asked: PackingBytes) -> Packing
+pub(crate) fn packing_by(asked: PackingBytes) -> Packing
     ensures { λ r. ⌜ r ≡ packingBy asked ⌝ }
 {
     let key = asked.key;
