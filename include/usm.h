@@ -86,7 +86,8 @@ void usm_mask_audio(uint64_t key, uint8_t *payload, size_t len);
 
 /*
  * Replies. Every function below returns a reply, a struct by value. Three fields are in all replies but
- * that of usm_seek, which refuses nothing (usm_open has them in `film`):
+ * that of usm_seek, which refuses nothing (usm_open has them in `film`, usm_write_chunk
+ * in `head`):
  *
  *     number        0 where the input is accepted, the number of a refusal where it is not
  *     refused_at    the place that is refused: in a film the start of the block or chunk being read,
@@ -560,6 +561,80 @@ struct usm_packing {
 struct usm_size_reply usm_write(const uint8_t *name, size_t name_len, const uint8_t *video,
                                 size_t video_len, const uint8_t *audio, size_t audio_len,
                                 struct usm_packing packing, uint8_t *out, size_t out_len);
+
+/*
+ * Writing piece by piece: a film from streams of any size, in the memory of one payload. usm_write_open
+ * writes the header; usm_write_chunk says which payload comes next, and writes the head of its chunk;
+ * usm_write_payload makes the payload what is stored; usm_write_end writes the ends. No function keeps
+ * anything between two calls, and each writes to an output of its own.
+ *
+ *     uint8_t head[USM_HEAD_BYTES];
+ *     size_t turn = 0;
+ *     struct usm_size_reply header = usm_write_open(name, name_len, video, audio, packing, out, out_len);
+ *     .. write the first header.size bytes of `out` ..
+ *     for (;;) {
+ *         struct usm_turn_reply next = usm_write_chunk(video, audio, turn, packing, head, sizeof head);
+ *         if (next.found == USM_STEP_OVER)
+ *             break;
+ *         .. read next.length bytes of the stream that next.kind says, from its byte next.from on ..
+ *         struct usm_size_reply stored = usm_write_payload(packing.key.number, next.mask, payload, next.length);
+ *         .. write `head`, the payload, and next.padding zeros ..
+ *         turn = next.next;
+ *     }
+ *     struct usm_size_reply ends = usm_write_end(packing, out, out_len);
+ *     .. write the first ends.size bytes of `out` ..
+ *
+ * These pieces, one after the other, are the film that usm_write writes from the same name, streams and
+ * packing, byte for byte; and one of the calls refuses where usm_write refuses, with the same number
+ * (proved). A payload can be refused late: a caller that writes while it goes has written by then, and one
+ * that wants nothing written asks usm_write_payload of all payloads first. Where `mask` is USM_MASK_NONE
+ * that changes none of them.
+ */
+
+/* The bytes of a chunk's head. */
+#define USM_HEAD_BYTES 32
+
+/*
+ * Writes the header of a film whose streams have `video` and `audio` bytes. Of the numbers it gives, in
+ * this order: USM_CODEC_ALONE; USM_TOO_LONG, for the whole film; USM_SHORT_ROOM. The header has 352 bytes
+ * or more, by the name: lend `out` with length 0 to learn its size.
+ */
+struct usm_size_reply usm_write_open(const uint8_t *name, size_t name_len, size_t video, size_t audio,
+                                     struct usm_packing packing, uint8_t *out, size_t out_len);
+
+/* The reply on a turn. 64 bytes. */
+struct usm_turn_reply {
+    struct usm_size_reply head; /* the reply on the output of the head: USM_HEAD_BYTES, or USM_SHORT_ROOM */
+    size_t next;          /* the turn that is to be asked next; the fields from here on are of a payload,
+                             also beside USM_SHORT_ROOM */
+    size_t from;          /* the byte of its stream that the payload begins with */
+    size_t length;        /* its bytes: 65,536, and of the last payload of a stream the rest */
+    size_t padding;       /* how many zeros stand behind it */
+    uint8_t found;        /* USM_STEP_CHUNK; USM_STEP_OVER where both streams are over, and all else is 0 then */
+    uint8_t kind;         /* USM_CHUNK_VIDEO or USM_CHUNK_AUDIO */
+    uint8_t mask;         /* the mask that it is to have, as in usm_step_reply; without a key it is none */
+};
+
+/*
+ * Which payload is written at a turn, in a film whose streams have `video` and `audio` bytes, and the head
+ * of its chunk. Turn 0 is the first; going on with `next` each payload of both streams comes once, by
+ * turns, and then the end (proved). Where the packing has no audio, `audio` is not looked at. Where the
+ * output is too short for the head it is unchanged, and the rest of the reply is as it would be.
+ */
+struct usm_turn_reply usm_write_chunk(size_t video, size_t audio, size_t turn, struct usm_packing packing,
+                                      uint8_t *head, size_t head_len);
+
+/*
+ * Masks the whole payload of a turn as it is stored, in place: the reverse of usm_clear. `mask` is that of
+ * its turn; where it is neither USM_MASK_VIDEO nor USM_MASK_AUDIO nothing changes, and `key` is not looked
+ * at. Where the payload begins with the end marker it is refused, USM_MARKED_PAYLOAD, and unchanged. The
+ * size is the payload's length.
+ */
+struct usm_size_reply usm_write_payload(uint64_t key, uint8_t mask, uint8_t *payload, size_t len);
+
+/* Writes the ends of a film's streams: 64 bytes for each that there is. Of the numbers it gives
+ * USM_SHORT_ROOM. */
+struct usm_size_reply usm_write_end(struct usm_packing packing, uint8_t *out, size_t out_len);
 
 /*
  * Films of the old builder, the original's UsmBuilder. No extractor reads its container, not even the

@@ -3,8 +3,8 @@
 ghost use Rattle.write_pieces.specs.TurnReplies.{TurnWriting};
 ghost use Rattle.usm.specs.Writes.{packingBy};
 ghost use Rattle.usm.specs.Pieces.{HeaderFor, StoredFor, EndsFor};
-use crate::writing::packing_by;
 use crate::writing::PackingBytes;
+use crate::writing::packing_by;
 use lent::SizeReply;
 use write_pieces::TurnReply;
 

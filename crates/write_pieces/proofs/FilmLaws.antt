@@ -31,7 +31,7 @@ use Rattle.write_plan.proofs.TurnLaws.{turns-bytes, turns-over, next-bytes, nex
 use Rattle.write_pieces.specs.declared.Piece.{Piece}
 use Rattle.write_pieces.specs.Turns.{payloadLen}
 use Rattle.write_pieces.specs.Storing.{maskIn, storedBy}
-use Rattle.write_pieces.specs.Promises.{Taken, streamIn, payloadOf, Under, pieceBytes, bytesBy}
+use Rattle.write_pieces.specs.Writers.{Taken, streamIn, payloadOf, Under, pieceBytes, bytesBy}
 use Rattle.write_pieces.proofs.WalkLaws.{pieceAt, made-of}
 
 -- ---- a payload as it is stored
@@ -123,9 +123,9 @@ module _ (number : ℕ) (packing : Packing) (under : Under number (packing .key)
 marked-more : (stream : List ℕ) → anyMarked (payloadsOf stream) ≡ (standsAt contentsEnd (take 0x10000 stream) 0 || anyMarked (payloadsOf (drop 0x10000 stream)))
 marked-more stream = by (standsAt contentsEnd (take 0x10000 stream) 0) refl
   where
-  by : (t : Bool) → standsAt contentsEnd (take 0x10000 stream) 0 ≡ t → anyMarked (payloadsOf stream) ≡ (t || anyMarked (payloadsOf (drop 0x10000 stream)))
-  by true e = marked-here stream e
-  by false e = unmarked-more stream e
+    by : (t : Bool) → standsAt contentsEnd (take 0x10000 stream) 0 ≡ t → anyMarked (payloadsOf stream) ≡ (t || anyMarked (payloadsOf (drop 0x10000 stream)))
+    by true e = marked-here stream e
+    by false e = unmarked-more stream e
 
 or-last : (s m a : Bool) → ((s || m) || a) ≡ (s || (m || a))
 or-last true m a = refl

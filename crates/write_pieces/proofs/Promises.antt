@@ -20,7 +20,7 @@ use Rattle.write_plan.proofs.LengthLaws.{head-length, header-length}
 use Rattle.write_plan.proofs.PlanLaws.{headed-so, planned-by}
 use Rattle.write.specs.Writing.{endsOf}
 use Rattle.write_pieces.specs.declared.Piece.{Piece}
-use Rattle.write_pieces.specs.Promises.{Taken, payloadOf, pieceBytes, bytesBy}
+use Rattle.write_pieces.specs.Writers.{Taken, payloadOf, pieceBytes, bytesBy}
 use Rattle.write_pieces.specs.Promises as promised
 use Rattle.write_pieces.proofs.WalkLaws.{all-taken}
 use Rattle.write_pieces.proofs.FilmLaws.{chunks-made, marks-made}

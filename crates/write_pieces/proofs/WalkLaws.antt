@@ -14,7 +14,7 @@ use Rattle.write_pieces.specs.declared.Piece.{Piece}
 use Rattle.write_pieces.specs.declared.Turn.{Turn}
 use Rattle.write_pieces.specs.declared.Turn.the-variants.{Over, Next}
 use Rattle.write_pieces.specs.Turns.{payloadLen, turnAfter, pieceOf, firstOf, turnIn}
-use Rattle.write_pieces.specs.Promises.{Taken, afterTurn, piecesFrom}
+use Rattle.write_pieces.specs.Writers.{Taken, afterTurn, piecesFrom}
 
 -- ---- payload k of a stream
 
@@ -76,7 +76,6 @@ module _ (video audio : ℕ) where
         (audio-on : (k : ℕ) → (payloadLen audio k ≡ 0 → ⊥) → heard k ≡ one (pieceAt Audio audio k) (seen (k + 1)))
         (audio-off : (k : ℕ) → payloadLen audio k ≡ 0 → heard k ≡ seen (k + 1))
         (none : (k : ℕ) → payloadLen video k ≡ 0 → payloadLen audio k ≡ 0 → seen k ≡ over) where
-
       -- what a turn is answered, and what is made from it on
       abbrev Step : ℕ → Turn → Type 0
       Step turn Over = from-turn turn ≡ over

@@ -1,4 +1,5 @@
 pub mod Turns
 pub mod Storing
 pub mod TurnReplies
+pub mod Writers
 pub mod Promises

@@ -7,6 +7,9 @@ use std::mem::MaybeUninit;
 /// The bytes of a key's tables T, V and A.
 pub const KEY_TABLE_BYTES: usize = 96;
 
+/// The bytes of a chunk's head.
+pub const HEAD_BYTES: usize = 32;
+
 #[repr(C)]
 #[derive(Clone, Copy)]
 pub struct Reading {
@@ -231,6 +234,19 @@ pub struct StepReply {
     pub mask: u8,
 }
 
+#[repr(C)]
+#[derive(Clone, Copy)]
+pub struct TurnReply {
+    pub head: SizeReply,
+    pub next: usize,
+    pub from: usize,
+    pub length: usize,
+    pub padding: usize,
+    pub found: u8,
+    pub kind: u8,
+    pub mask: u8,
+}
+
 /// Holds a struct to the size and the offsets that usm.h gives it.
 macro_rules! is_laid_out {
     ($name:ident, $size:literal, $($field:ident: $offset:literal),+) => {
@@ -260,6 +276,7 @@ is_laid_out!(ApartReply, 40, refused_at: 0, byte: 8, chunk: 16, offset: 24, numb
 is_laid_out!(OpenReply, 72, film: 0, chunks: 56, more: 64);
 is_laid_out!(FilmAudio, 8, codec: 0, present: 4, has_codec: 5);
 is_laid_out!(StepReply, 40, refused_at: 0, next: 8, payload: 16, length: 24, number: 32, unknown_type: 33, found: 34, kind: 35, data_type: 36, channel: 37, mask: 38);
+is_laid_out!(TurnReply, 64, head: 0, next: 24, from: 32, length: 40, padding: 48, found: 56, kind: 57, mask: 58);
 is_laid_out!(SeekReply, 24, chunk: 0, offset: 8, found: 16);
 
 #[link(name = "player", kind = "static")]
@@ -316,6 +333,25 @@ unsafe extern "C" {
         out: *mut u8,
         out_len: usize,
     ) -> SizeReply;
+    fn usm_write_open(
+        name: *const u8,
+        name_len: usize,
+        video: usize,
+        audio: usize,
+        packing: Packing,
+        out: *mut u8,
+        out_len: usize,
+    ) -> SizeReply;
+    fn usm_write_chunk(
+        video: usize,
+        audio: usize,
+        turn: usize,
+        packing: Packing,
+        head: *mut u8,
+        head_len: usize,
+    ) -> TurnReply;
+    fn usm_write_payload(key: u64, mask: u8, payload: *mut u8, len: usize) -> SizeReply;
+    fn usm_write_end(packing: Packing, out: *mut u8, out_len: usize) -> SizeReply;
     fn usm_from_old(container: *const u8, len: usize, codecs: Codecs, out: *mut u8, out_len: usize) -> SizeReply;
     fn usm_to_old(container: *const u8, len: usize, out: *mut u8, out_len: usize) -> SizeReply;
     fn usm_csv(bytes: *const u8, len: usize, place: usize, reading: Reading, out: *mut u8, out_len: usize)
@@ -547,6 +583,28 @@ pub fn write(name: &[u8], video: &[u8], audio: &[u8], packing: Packing, film: &m
         let [name, video, audio] = [name, video, audio].map(|bytes| (bytes.as_ptr(), bytes.len()));
         usm_write(name.0, name.1, video.0, video.1, audio.0, audio.1, packing, out, room)
     })
+}
+
+/// Writes the header of a film whose streams have these lengths, likewise.
+pub fn write_open(name: &[u8], video: usize, audio: usize, packing: Packing, header: &mut Vec<u8>) -> SizeReply {
+    fill(header, |out, room| unsafe {
+        usm_write_open(name.as_ptr(), name.len(), video, audio, packing, out, room)
+    })
+}
+
+/// What is written at a turn, and the head of its chunk.
+pub fn write_chunk(video: usize, audio: usize, turn: usize, packing: Packing, head: &mut [u8; HEAD_BYTES]) -> TurnReply {
+    unsafe { usm_write_chunk(video, audio, turn, packing, head.as_mut_ptr(), head.len()) }
+}
+
+/// Masks a payload as it is stored, in place.
+pub fn write_payload(key: u64, mask: u8, payload: &mut [u8]) -> SizeReply {
+    unsafe { usm_write_payload(key, mask, payload.as_mut_ptr(), payload.len()) }
+}
+
+/// Writes the ends of a film's streams to the room of a vector, as `write` does.
+pub fn write_end(packing: Packing, ends: &mut Vec<u8>) -> SizeReply {
+    fill(ends, |out, room| unsafe { usm_write_end(packing, out, room) })
 }
 
 /// Moves a film from the old builder's container, likewise.
