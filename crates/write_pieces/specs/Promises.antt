@@ -13,7 +13,7 @@ use Rattle.write_plan.specs.Sizes.{sizeIn}
 use Rattle.write_plan.specs.Planning.{anyMarked, sizedOf, markedBy, plannedOf}
 use Rattle.write.specs.Writing.{HeaderWriting, HeadWriting, endsOf, EndsWriting}
 use Rattle.write_pieces.specs.declared.Piece.{Piece}
-use Rattle.write_pieces.specs.Writers.{Taken, payloadOf, Under, pieceBytes, bytesBy, piecesFrom}
+use Rattle.write_pieces.specs.Writers.{Taken, payloadOf, Under, pieceBytes, bytesBy, piecesFrom, Call, WentOn, putBy}
 
 -- The header, the pieces in the order of their turns, and the ends, put one after the other, are the film that is written whole: for every name, streams, packing and key.
 abbrev pub FilmOfPieces : Type 0
@@ -29,6 +29,18 @@ RefusedByPieces =
     (name video audio : List ℕ) (packing : Packing) (pieces : List Piece) → Taken (length video) (sizeIn packing (length audio)) 0 pieces
     → plannedOf name video (audioIn packing audio) packing
     ≡ markedBy (anyMarked (map (payloadOf video (audioIn packing audio)) pieces)) (sizedOf (length name) (length video) (sizeIn packing (length audio)) packing)
+
+-- By results alone: where no call is refused, the first bytes of each output, as many as were answered, the payloads as they were left and the zeros, put one after
+-- the other, are the film that is written whole, which is not refused either. However long the outputs are, and whatever stood in them.
+abbrev pub WhoeverWritesThePieces : Type 0
+WhoeverWritesThePieces =
+    (name video audio : List ℕ) (packing : Packing) (number : ℕ) (out out′ : List ℕ) (n : ℕ) (calls : List Call) (last : Call) (end end′ : List ℕ) (m : ℕ)
+    → Under number (packing .key)
+    → HeaderWriting name (length video) (length audio) packing out (Size n) out′
+    → WentOn number video audio packing last 0 calls
+    → EndsWriting (packing .audio) end (Size m) end′
+    → (take n out′ ++ (bytesBy putBy calls ++ take m end′) ≡ filmBytes name video (audioIn packing audio) packing)
+    × (plannedOf name video (audioIn packing audio) packing ≡ Size (length (filmBytes name video (audioIn packing audio) packing)))
 
 -- Whoever goes on from turn 0 with each next turn comes to the end of both streams.
 abbrev pub TurnsEnd : Type 0
