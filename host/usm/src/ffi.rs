@@ -587,13 +587,17 @@ pub fn write(name: &[u8], video: &[u8], audio: &[u8], packing: Packing, film: &m
 
 /// Writes the header of a film whose streams have these lengths, likewise.
 pub fn write_open(name: &[u8], video: usize, audio: usize, packing: Packing, header: &mut Vec<u8>) -> SizeReply {
-    fill(header, |out, room| unsafe {
-        usm_write_open(name.as_ptr(), name.len(), video, audio, packing, out, room)
-    })
+    fill(header, |out, room| unsafe { usm_write_open(name.as_ptr(), name.len(), video, audio, packing, out, room) })
 }
 
 /// What is written at a turn, and the head of its chunk.
-pub fn write_chunk(video: usize, audio: usize, turn: usize, packing: Packing, head: &mut [u8; HEAD_BYTES]) -> TurnReply {
+pub fn write_chunk(
+    video: usize,
+    audio: usize,
+    turn: usize,
+    packing: Packing,
+    head: &mut [u8; HEAD_BYTES],
+) -> TurnReply {
     unsafe { usm_write_chunk(video, audio, turn, packing, head.as_mut_ptr(), head.len()) }
 }
 

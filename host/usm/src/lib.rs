@@ -26,6 +26,7 @@
 //! | read the tables of its header, or any @UTF table | [`header_tables`], [`table`] |
 //! | mask and unmask payloads | [`mask`], [`unmask`], [`key_table`] |
 //! | pack streams into a film | [`pack`], [`pack_into`] |
+//! | pack streams of any length, from readers to a writer | [`pack_to`] |
 //! | move films of the old builder to films that can be read, and back | [`from_old`], [`to_old`] |
 //! | save what arrived of a film that was cut | [`salvage()`] |
 //! | check a film against the delivery profile | [`profile()`] |
@@ -69,7 +70,7 @@ pub use header::{HeaderTable, header_tables};
 pub use index::{Entry, Index, Place, index};
 pub use masks::{KeyTable, Stream, key_table, mask, unmask};
 pub use moves::{Codecs, from_old, from_old_into, from_old_size, to_old, to_old_into};
-pub use pack::{Streams, pack, pack_into, packed_size};
+pub use pack::{Lengths, Streams, pack, pack_into, pack_to, packed_size};
 pub use profile::{Offence, Rule, profile};
 pub use reader::{ChunkHead, ChunkHeads, Format, Header, Mask, Part, Reader, StreamReader};
 pub use reading::{Audio, Payloads, Reading, Tables};

@@ -1,8 +1,12 @@
 //! Streams packed into a film.
 
+use std::io::{Read, Write};
+
+use crate::chunks::kind_of;
+use crate::error::make_room;
 use crate::ffi::{self, Key, SizeReply};
-use crate::sized::{fill, filled, size_of};
-use crate::{Error, Refusal};
+use crate::sized::{check, fill, filled, size_of};
+use crate::{ChunkKind, Error, Refusal};
 
 /// The streams of a film to be written, and what its header says of them.
 #[derive(Clone, Copy, PartialEq, Eq, Debug, Default)]
@@ -35,15 +39,50 @@ impl<'a> Streams<'a> {
     }
 
     fn write(self, key: Option<u64>, film: &mut Vec<u8>) -> SizeReply {
-        let packing = ffi::Packing {
-            key: Key { number: key.unwrap_or(0), given: key.is_some().into() },
-            video_codec: self.video_codec.unwrap_or(0),
-            audio_codec: self.audio_codec.unwrap_or(0),
-            has_audio: self.audio.is_some().into(),
-            has_video_codec: self.video_codec.is_some().into(),
-            has_audio_codec: self.audio_codec.is_some().into(),
-        };
+        let packing = packing(key, self.audio.is_some(), self.video_codec, self.audio_codec);
         ffi::write(self.name, self.video, self.audio.unwrap_or_default(), packing, film)
+    }
+}
+
+fn packing(key: Option<u64>, audio: bool, video_codec: Option<u32>, audio_codec: Option<u32>) -> ffi::Packing {
+    ffi::Packing {
+        key: Key { number: key.unwrap_or(0), given: key.is_some().into() },
+        video_codec: video_codec.unwrap_or(0),
+        audio_codec: audio_codec.unwrap_or(0),
+        has_audio: audio.into(),
+        has_video_codec: video_codec.is_some().into(),
+        has_audio_codec: audio_codec.is_some().into(),
+    }
+}
+
+/// A film that is packed piece by piece: as [`Streams`], with the lengths of the streams in their place.
+#[derive(Clone, Copy, PartialEq, Eq, Debug, Default)]
+#[non_exhaustive]
+pub struct Lengths<'a> {
+    /// The film's name: bytes of any encoding.
+    pub name: &'a [u8],
+    pub video: usize,
+    /// Audio that is there may be empty.
+    pub audio: Option<usize>,
+    /// The codecs that the header gives. Audio is masked where its codec is 2, ADX.
+    pub video_codec: Option<u32>,
+    pub audio_codec: Option<u32>,
+}
+
+impl<'a> Lengths<'a> {
+    /// Video alone, under a name.
+    pub fn new(name: &'a [u8], video: usize) -> Lengths<'a> {
+        Lengths { name, video, ..Lengths::default() }
+    }
+
+    /// The same, with audio.
+    pub fn with_audio(self, audio: usize) -> Lengths<'a> {
+        Lengths { audio: Some(audio), ..self }
+    }
+
+    /// The same, with the codecs of video and audio.
+    pub fn with_codecs(self, video_codec: Option<u32>, audio_codec: Option<u32>) -> Lengths<'a> {
+        Lengths { video_codec, audio_codec, ..self }
     }
 }
 
@@ -78,4 +117,60 @@ pub fn pack_into(streams: Streams, key: Option<u64>, film: &mut Vec<u8>) -> Resu
 /// The bytes of the film that these streams make.
 pub fn packed_size(streams: Streams) -> Result<usize, Refusal> {
     size_of(|film| streams.write(None, film))
+}
+
+/// Packs streams that are read into a film that is written, in the memory of one payload of 65,536 bytes, and gives how
+/// many bytes were written. The film is that of [`pack`] for the same streams (proved of its pieces). As many bytes are
+/// read of each stream as its length says, and audio only where it has one; a reader that ends before gives its error.
+///
+/// What is refused of the lengths, the name and the codecs is refused before a byte is written. A payload that begins with
+/// the mark of an end is refused when its turn comes: what was written by then is no film.
+///
+/// ```
+/// use usm::{Lengths, Streams};
+///
+/// let (video, audio) = (vec![1; 100_000], vec![2; 70_000]);
+/// let mut film = Vec::new();
+/// let lengths = Lengths::new(b"lark.usm", video.len()).with_audio(audio.len());
+/// let bytes = usm::pack_to(lengths, Some(7), &video[..], &audio[..], &mut film)?;
+/// assert_eq!(bytes, film.len() as u64);
+/// assert_eq!(film, usm::pack(Streams::new(b"lark.usm", &video).with_audio(&audio), Some(7))?);
+/// # Ok::<(), Box<dyn std::error::Error>>(())
+/// ```
+pub fn pack_to(
+    lengths: Lengths,
+    key: Option<u64>,
+    mut video: impl Read,
+    mut audio: impl Read,
+    mut film: impl Write,
+) -> Result<u64, Error> {
+    let packing = packing(key, lengths.audio.is_some(), lengths.video_codec, lengths.audio_codec);
+    let (video_len, audio_len) = (lengths.video, lengths.audio.unwrap_or(0));
+    let mut written = 0;
+    let mut put = |bytes: &[u8]| -> Result<(), Error> {
+        written += bytes.len() as u64;
+        Ok(film.write_all(bytes)?)
+    };
+
+    put(&filled(|header| ffi::write_open(lengths.name, video_len, audio_len, packing, header))?)?;
+    let (mut head, mut payload, mut turn) = ([0; ffi::HEAD_BYTES], Vec::new(), 0);
+    loop {
+        let next = ffi::write_chunk(video_len, audio_len, turn, packing, &mut head);
+        if next.found != 1 {
+            break;
+        }
+        make_room(&mut payload, next.length)?;
+        payload.resize(next.length, 0);
+        match kind_of(next.kind) {
+            ChunkKind::Video => video.read_exact(&mut payload)?,
+            _ => audio.read_exact(&mut payload)?,
+        }
+        check(ffi::write_payload(packing.key.number, next.mask, &mut payload))?;
+        put(&head)?;
+        put(&payload)?;
+        put(&[0; ffi::HEAD_BYTES][..next.padding])?;
+        turn = next.next;
+    }
+    put(&filled(|ends| ffi::write_end(packing, ends))?)?;
+    Ok(written)
 }

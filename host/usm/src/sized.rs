@@ -37,7 +37,8 @@ pub(crate) fn filled(call: impl Fn(&mut Vec<u8>) -> SizeReply) -> Result<Vec<u8>
     Ok(output)
 }
 
-fn check(reply: SizeReply) -> Result<(), Refusal> {
+/// What a reply refuses.
+pub(crate) fn check(reply: SizeReply) -> Result<(), Refusal> {
     Refusal::check(reply.number, reply.refused_at, reply.unknown_type)
 }
 
