@@ -197,6 +197,45 @@ static void write_output(size_t lacks)
     write_film(0, 0, 0, lacks);
 }
 
+/* Writes the header of a film with a name of 33 bytes; one of the two slices is too long. */
+static void write_open(size_t name, size_t out)
+{
+    struct usm_packing packing = {{0, 0}, 0, 0, 1, 0, 0};
+    size_t len = 33, size = usm_write_open(TABLE, len, len, len, packing, NULL, 0).size;
+
+    usm_write_open(film_of(TABLE, len, name), len, len, len, packing, lacking(&written, size, out), size);
+}
+
+static void open_name(size_t lacks)
+{
+    write_open(lacks, 0);
+}
+
+static void open_output(size_t lacks)
+{
+    write_open(0, lacks);
+}
+
+static void write_chunk(size_t lacks)
+{
+    struct usm_packing packing = {{0, 0}, 0, 0, 1, 0, 0};
+
+    usm_write_chunk(1, 1, 0, packing, lacking(&written, USM_HEAD_BYTES, lacks), USM_HEAD_BYTES);
+}
+
+static void write_payload(size_t lacks)
+{
+    usm_write_payload(1, USM_MASK_AUDIO, lacking(&written, PAYLOAD, lacks), PAYLOAD);
+}
+
+static void write_end(size_t lacks)
+{
+    struct usm_packing packing = {{0, 0}, 0, 0, 1, 0, 0};
+    size_t size = usm_write_end(packing, NULL, 0).size;
+
+    usm_write_end(packing, lacking(&written, size, lacks), size);
+}
+
 /* A slice that begins at the page, and a call that begins before it. */
 static void before(size_t lacks)
 {
@@ -238,6 +277,11 @@ static const struct {
     {"usm_write, the video", write_video},
     {"usm_write, the audio", write_audio},
     {"usm_write, the output", write_output},
+    {"usm_write_open, the name", open_name},
+    {"usm_write_open, the output", open_output},
+    {"usm_write_chunk, the head", write_chunk},
+    {"usm_write_payload, the payload", write_payload},
+    {"usm_write_end, the output", write_end},
     {"usm_key_table, one byte before the buffer", before},
     {"usm_unmask_audio, a payload that is read-only", read_only_payload},
 };
