@@ -1,3 +1,4 @@
 mod ReplyLaws
+mod PieceLaws
 pub mod OneAnswer
 pub mod Promises
