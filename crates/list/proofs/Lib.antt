@@ -1,4 +1,5 @@
 pub mod FillLaws
 pub mod ReplyLaws
+pub mod PastLaws
 pub mod OneAnswer
 pub mod Promises

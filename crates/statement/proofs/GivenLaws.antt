@@ -28,7 +28,7 @@ count-of : (answer : Listed) → listReply answer .number ≡ 0 → (n : ℕ) ×
 count-of answer e = (listReply answer .count, counted answer e)
 
 -- and every test was passed
-all-passed : (long bad : Bool) (room count n : ℕ) (f : Film) → cond long (refusedBy TooLong) (cond bad (refusedBy BadTenants) (statedIn room count f)) ≡ Count n
+pub all-passed : (long bad : Bool) (room count n : ℕ) (f : Film) → cond long (refusedBy TooLong) (cond bad (refusedBy BadTenants) (statedIn room count f)) ≡ Count n
     → (bad ≡ false) × (n ≡ count) × (count ≤ room)
 all-passed true bad room count n f e = let z : _≡_ {A = ℕ} 0 1 = cc in absurd (omega arith)
 all-passed false true room count n f e = let z : _≡_ {A = ℕ} 0 1 = cc in absurd (omega arith)
@@ -44,7 +44,7 @@ last-false true b c e = let z : _≡_ {A = ℕ} 0 1 = cc in absurd (omega arith)
 last-false false true c e = let z : _≡_ {A = ℕ} 0 1 = cc in absurd (omega arith)
 last-false false false c e = e
 
-lines-long : (line : ℕ → List ℕ) (rank n : ℕ) → length (linesFrom line rank n) ≡ n
+pub lines-long : (line : ℕ → List ℕ) (rank n : ℕ) → length (linesFrom line rank n) ≡ n
 unfolding linesFrom
 lines-long line rank zero = refl
 lines-long line rank (suc n) = ap suc (lines-long line (suc rank) n)
@@ -56,7 +56,7 @@ module _ (container : List ℕ) (tenants lines lines′ : List (List ℕ)) (r : 
   abbrev pub sizeHere : ℕ
   sizeHere = copyOf (filmIn container)
 
-  passed : (areBad tenants ≡ false) × (statedOf container tenants (length lines) ≡ Count (length tenants)) × (length tenants ≤ length lines)
+  pub passed : (areBad tenants ≡ false) × (statedOf container tenants (length lines) ≡ Count (length tenants)) × (length tenants ≤ length lines)
   passed =
       let n = count-of (statedOf container tenants (length lines)) (ap (λ (r : ListReply). r .number) (sym (a .stated .0)) ∙ a .accepted) in
       let all = all-passed (ltb 0x40000000 (length container)) (areBad tenants) (length lines) (length tenants) (n .0) (filmIn container) (n .1) in

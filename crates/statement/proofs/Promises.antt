@@ -1,6 +1,6 @@
 -- The promises of specs/Promises.antt, each under its name. The lines are those of the tenants in rising order, so what is known of groups and shares is
 -- known of the lines. Assumes nothing.
-use Prim.Native.Nat.{ℕ, _+_, _<_}
+use Prim.Native.Nat.{ℕ, _+_, _≤_, _<_}
 use mathlib.Core.Path.{_≡_, refl, sym, ap, ap₂, _∙_}
 use mathlib.Core.Bool.{Bool, true, false, cond}
 use mathlib.Core.List.{List, [], _∷_, map}
@@ -21,19 +21,22 @@ use Rattle.walk.specs.Walks.{videoSize, audioSize}
 use Rattle.list.specs.declared.Listed.{Listed}
 use Rattle.list.specs.declared.Listed.the-variants.{Count, Refused}
 use Rattle.list.specs.Listing.{listReply, filledBy}
+use Rattle.list.proofs.PastLaws.{past-count}
 use Rattle.key_shown.specs.KeyBits.{shownBits}
 use Rattle.key_shown.proofs.Promises.{SameStreamsExactlyWhenBitsAgree}
 use Rattle.tenants.specs.Tenants.{numberIn, keyIn, repeated, areBad}
-use Rattle.tenants.specs.Shares.{shareOf, groupOf, lineOf}
+use Rattle.tenants.specs.Shares.{shareOf, groupOf, lineOf, lineAt}
 use Rattle.tenants.proofs.CountLaws.{perm-length}
 use Rattle.tenants.proofs.RisingLaws.{distinct, rising, perm-rising, rising-rises, one-tenant}
-use Rattle.tenants.proofs.GroupLaws.{one-group, of-one-group}
+use Rattle.tenants.proofs.GroupLaws.{one-group, of-one-group, none-lower, lowest-there}
+use Rattle.tenants.proofs.Promises.{GoodExactlyWhenDifferent}
 use Rattle.tenants.proofs.SumLaws.{total, group-total, shares-near, shares-fall}
 use Rattle.tenants.proofs.OrderLaws.{perm-bad, perm-lines}
 use Rattle.statement.specs.Statements.{filmIn, refusedBy, statedIn, statedOf, copyOf, linesOf}
 use Rattle.statement.specs.Promises as promised
 use Rattle.statement.specs.Promises.{tenantIn, groupIn, shareIn, linesGiven, borneBy, Unpacked}
-use Rattle.statement.proofs.GivenLaws.{shownHere, sizeHere, no-two, given, its-tenant, its-line, map-at, map-length, places-rise, last-false}
+use Rattle.statement.proofs.GivenLaws.{shownHere, sizeHere, no-two, given, its-tenant, its-line, map-at, map-length, places-rise, last-false, all-passed, lines-long, passed}
+use Rattle.statement.proofs.OrderLaws.{every-key, in-order}
 
 -- ---- groups
 
@@ -175,3 +178,42 @@ left (Refused refusal) list all h = refl
 pub RefusalsLeaveTheLines : promised.RefusalsLeaveTheLines
 RefusalsLeaveTheLines container tenants lines lines′ r e h =
     rw (e .1) (left (statedOf container tenants (length lines)) lines (linesOf (filmIn container) tenants) (rw (e .0) at h))
+
+-- a count is that of the lines, and has room
+all-lines : (container : List ℕ) (tenants lines : List (List ℕ)) (n : ℕ) → statedOf container tenants (length lines) ≡ Count n
+    → (length (linesOf (filmIn container) tenants) ≡ n) × (n ≤ length lines)
+all-lines container tenants lines n e =
+    let f = filmIn container in
+    let all = all-passed (ltb 0x40000000 (length container)) (areBad tenants) (length lines) (length tenants) n f e in
+    (lines-long (lineAt (shownBits f) (copyOf f) tenants) 0 (length tenants) ∙ sym (all .1), omega (arith, all .1, all .2))
+
+pub LinesPastTheCountStay : promised.LinesPastTheCountStay
+LinesPastTheCountStay container tenants lines lines′ r e =
+    rw (e .0, e .1) (past-count lines (linesOf (filmIn container) tenants) (statedOf container tenants (length lines)) (all-lines container tenants lines))
+
+-- ---- whose statement it is
+
+pub GroupIsItsLowest : promised.GroupIsItsLowest
+GroupIsItsLowest container tenants lines lines′ r line a l =
+    let bytes = shownHere container tenants lines lines′ r a in
+    let size = sizeHere container tenants lines lines′ r a in
+    let d = no-two container tenants lines lines′ r a in
+    let of = its-tenant container tenants lines lines′ r a line l in
+    let g = group-field bytes size tenants (of .0) line (of .2) in
+    let low = lowest-there bytes tenants d (of .1) in
+    let its = lineOf bytes size tenants (low .0) in (
+      λ line′ l′ same.
+          let of′ = its-tenant container tenants lines lines′ r a line′ l′ in
+          let g′ = group-field bytes size tenants (of′ .0) line′ (of′ .2) in
+          rw (g, tenant-field bytes size tenants (of′ .0) line′ (of′ .2)) (none-lower bytes tenants d (of .1) (of′ .1) (sym g′ ∙ same ∙ g)),
+      (its, its-line container tenants lines lines′ r a (low .0) (low .1), group-field bytes size tenants (low .0) its refl ∙ low .2 ∙ sym g, tenant-field bytes size tenants (low .0) its refl ∙ low .3 ∙ sym g),
+    )
+
+pub AnsweredAreOneToSixteen : promised.AnsweredAreOneToSixteen
+AnsweredAreOneToSixteen container tenants lines lines′ r a = GoodExactlyWhenDifferent tenants .0 (passed container tenants lines lines′ r a .0)
+
+pub EveryKeyUnpacks : promised.EveryKeyUnpacks
+EveryKeyUnpacks = every-key
+
+pub RefusalsInOrder : promised.RefusalsInOrder
+RefusalsInOrder = in-order

@@ -7,15 +7,20 @@ use mathlib.Core.List.{List, [], _∷_, List·Memᴰ, List·Permᴰ}
 use lib.ListN.{length, getD, take}
 use lib.Dec.{eqb}
 use Rattle.laws.specs.Lists.{at}
+use Rattle.refusal.specs.declared.Refusal.{Refusal}
+use Rattle.refusal.specs.Numbers.{numberOf}
 use Rattle.reading.specs.declared.AudioChoice.the-variants.{Chosen}
 use Rattle.reading.specs.Choices.{asOriginal}
 use Rattle.unmasking.specs.declared.Key.{Key}
 use Rattle.unmasking.specs.declared.Key.the-variants.{Given}
 use Rattle.extract.specs.declared.Contents.{Contents}
+use Rattle.extract.specs.declared.Extracted.{Extracted}
 use Rattle.extract.specs.declared.Extracted.the-variants as extracted
 use Rattle.extract.specs.Extraction.{Extraction}
 use Rattle.list.specs.declared.ListReply.{ListReply}
+use Rattle.list.specs.Promises.{SamePast}
 use Rattle.tenants.specs.Tenants.{numberIn, keyIn}
+use Rattle.tenants.specs.Promises.{OneToSixteen}
 use Rattle.statement.specs.Statements.{Stated}
 
 -- ---- what stands in a line, and which lines were given: as many as the reply says
@@ -106,3 +111,55 @@ OrderMovesNoLine =
 abbrev pub RefusalsLeaveTheLines : Type 0
 RefusalsLeaveTheLines =
     (container : List ℕ) (tenants lines lines′ : List (List ℕ)) (r : ListReply) → Stated container tenants lines r lines′ → (r .number ≡ 0 → ⊥) → lines′ ≡ lines
+
+-- "lines past the count": whatever is replied, the list is as long as before, and from the count on it is the same
+abbrev pub LinesPastTheCountStay : Type 0
+LinesPastTheCountStay =
+    (container : List ℕ) (tenants lines lines′ : List (List ℕ)) (r : ListReply) → Stated container tenants lines r lines′ → SamePast (r .count) lines lines′
+
+-- "lowest tenant of its group": the group that a line names is the number of a tenant of that group, and no tenant of the group has a lower one
+abbrev pub GroupIsItsLowest : Type 0
+GroupIsItsLowest =
+    (container : List ℕ) (tenants lines lines′ : List (List ℕ)) (r : ListReply) (line : List ℕ) → Answered container tenants lines r lines′ → List·Memᴰ line (linesGiven r lines′)
+    → ((line′ : List ℕ) → List·Memᴰ line′ (linesGiven r lines′) → groupIn line′ ≡ groupIn line → groupIn line ≤ tenantIn line′)
+    × ((lowest : List ℕ) × List·Memᴰ lowest (linesGiven r lines′) × (groupIn lowest ≡ groupIn line) × (tenantIn lowest ≡ groupIn line))
+
+-- "up to 16 tenants, each with a tenant number": what is answered is a statement for 1 to 16 tenants, whose numbers are all different
+abbrev pub AnsweredAreOneToSixteen : Type 0
+AnsweredAreOneToSixteen = (container : List ℕ) (tenants lines lines′ : List (List ℕ)) (r : ListReply) → Answered container tenants lines r lines′ → OneToSixteen tenants
+
+-- a film that has a statement can be unpacked under every key and under none, into outputs as long as the container: so there are two extractions to compare
+abbrev pub EveryKeyUnpacks : Type 0
+EveryKeyUnpacks =
+    (container : List ℕ) (tenants lines lines′ : List (List ℕ)) (r : ListReply) (key : Key) (video audio : List ℕ) → Answered container tenants lines r lines′
+    → length container ≤ length video → length container ≤ length audio
+    → (contents : Contents) × (videoAfter : List ℕ) × (audioAfter : List ℕ) × Unpacked container key video audio contents videoAfter audioAfter
+
+-- what extraction answers, audio chosen, into outputs as long as the container: a film, or the walk's own refusal
+pub record Walked (container : List ℕ) (answer : Extracted) : Type 0 where
+  pub key : Key
+  pub video : List ℕ
+  pub audio : List ℕ
+  pub videoAfter : List ℕ
+  pub audioAfter : List ℕ
+  pub video-room : length container ≤ length video
+  pub audio-room : length container ≤ length audio
+  pub answers : Extraction container (asOriginal Chosen) key video audio answer videoAfter audioAfter
+
+-- a refusal by a number, at a place
+abbrev pub RefusedBy : ListReply → ℕ → ℕ → Type 0
+RefusedBy r number place = (r .number ≡ number) × (r .«refused_at» ≡ place)
+
+-- "Refusals: 11, 22 no tenant, over 16, or a number twice, the walk's own, then 13 lent list too short": each only where none before it is met
+pub record InOrder (container : List ℕ) (tenants lines : List (List ℕ)) (r : ListReply) : Type 0 where
+  pub too-long : 0x40000000 < length container → RefusedBy r 11 0
+  pub bad-tenants : length container ≤ 0x40000000 → (OneToSixteen tenants → ⊥) → RefusedBy r 22 0
+  pub walks-own : length container ≤ 0x40000000 → OneToSixteen tenants → (refusal : Refusal) → Walked container (extracted.Refused refusal) → RefusedBy r (numberOf (refusal .cause)) (refusal .place)
+  pub short-list : length container ≤ 0x40000000 → OneToSixteen tenants → (contents : Contents) → Walked container (extracted.Film contents) → length lines < length tenants
+      → RefusedBy r 13 0 × (r .count ≡ length tenants)
+  pub answered : length container ≤ 0x40000000 → OneToSixteen tenants → (contents : Contents) → Walked container (extracted.Film contents) → length tenants ≤ length lines
+      → RefusedBy r 0 0 × (r .count ≡ length tenants)
+
+-- The order of the refusals, on what extraction answers.
+abbrev pub RefusalsInOrder : Type 0
+RefusalsInOrder = (container : List ℕ) (tenants lines lines′ : List (List ℕ)) (r : ListReply) → Stated container tenants lines r lines′ → InOrder container tenants lines r

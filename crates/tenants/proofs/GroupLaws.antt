@@ -107,3 +107,16 @@ module _ (bits : ℕ) (ts : List (List ℕ)) {t u : List ℕ} (m : List·Memᴰ 
       by-tests false true p q =
           absurd (false≢true (sym p ∙ eq-eqb (groupOf bits ts u) (groupOf bits ts t) (sym (one-group (shares-copy bits (keyIn t) u q)))))
       by-tests false false p q = refl
+
+-- ---- the tenant whose number is the group's name
+
+module _ (bytes : ℕ) (ts : List (List ℕ)) (d : Distinct ts) {t : List ℕ} (m : List·Memᴰ t ts) where
+  -- no tenant of the group has a lower number
+  pub none-lower : {u : List ℕ} → List·Memᴰ u ts → groupOf bytes ts u ≡ groupOf bytes ts t → groupOf bytes ts t ≤ numberIn u
+  none-lower {u} n e = lowest-under (sharing bytes (keyIn t)) (numberIn t) n (copy-shares bytes (keyIn t) u (of-one-group bytes ts m n d (sym e)))
+
+  -- and one of them has it
+  pub lowest-there : (u : List ℕ) × List·Memᴰ u ts × (groupOf bytes ts u ≡ groupOf bytes ts t) × (numberIn u ≡ groupOf bytes ts t)
+  lowest-there =
+      let a = lowest-member (sharing bytes (keyIn t)) t ts m (own bytes ts m m t) in
+      (a .0, a .1, sym (one-group bytes ts m (a .1) (shares-copy bytes (keyIn t) (a .0) (a .2))), a .3)

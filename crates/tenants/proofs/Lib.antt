@@ -5,4 +5,5 @@ pub mod RisingLaws
 pub mod GroupLaws
 pub mod SumLaws
 pub mod OrderLaws
+pub mod Promises
 pub mod OneAnswer
