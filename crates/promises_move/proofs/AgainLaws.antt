@@ -60,7 +60,7 @@ module _ (film : List ℕ) (mpeg other : Codec) (n : ℕ) (e : fromOld film mpeg
   abbrev by : Packing
   by = packingOf (P .audio) mpeg other
 
-  moved-so : (length film ≤ 0x40000000) × (old.isOld film ≡ true) × (newPlan P mpeg other ≡ Size n)
+  pub moved-so : (length film ≤ 0x40000000) × (old.isOld film ≡ true) × (newPlan P mpeg other ≡ Size n)
   unfolding fromOld
   moved-so =
       let a = refused-not (ltb 0x40000000 (length film)) TooLong _ n e in

@@ -1,30 +1,42 @@
 -- The promises of specs/Promises.antt, each under its name. Assumes nothing.
-use Prim.Native.Nat.{ℕ, _+_, _≤_}
+use Prim.Native.Nat.{ℕ, _+_, _≤_, _<_}
 use mathlib.Core.Path.{_≡_, refl, sym, ap, ap₂, _∙_, subst}
 use mathlib.Core.List.{List, [], _∷_}
-use mathlib.Core.Bool.{Bool, true, false}
+use mathlib.Core.Bool.{Bool, true, false, cond}
 use native.Mathlib.Omega.{arith}
 use lib.ListN.{length, take, drop}
 use lib.Seq.{sets, sets-eq, take-at}
 use borrow.Author.Tests.{le-ltb}
-use Rattle.refusal.specs.declared.Cause.the-variants.{Foreign}
+use Rattle.refusal.specs.declared.Cause.{Cause}
+use Rattle.refusal.specs.declared.Cause.the-variants.{Foreign, ManyAudios}
 use Rattle.codec.specs.declared.Codec.{Codec}
 use Rattle.lent.specs.declared.Written.{Written}
 use Rattle.lent.specs.declared.Written.the-variants.{Size}
 use Rattle.lent.specs.Written.{writtenIn, leftBy}
 use Rattle.lent.proofs.RoomLaws.{planned-so}
-use Rattle.write_plan.specs.Planning.{refusedBy}
+use Rattle.unmasking.specs.Unmasking.{unmaskingOf}
+use Rattle.utf8.specs.Utf8.{isUtf8}
+use Rattle.write_plan.specs.declared.Stream.the-variants.{Video, Audio}
+use Rattle.write_plan.specs.Films.{audioIn, filmBytes}
+use Rattle.write_plan.specs.Planning.{refusedBy, plannedOf}
+use Rattle.write_plan.proofs.PlanLaws.{accepted}
+use Rattle.write.specs.Writing.{WritingOf}
+use Rattle.promises_write.specs.Promises.{GivesBack, storedIn, withoutKey}
+use Rattle.promises_write.proofs.StoredLaws.{none-stored}
+use Rattle.promises_write.proofs.Promises.{ReadingBack, KeyedIsStored}
 use Rattle.old_film.specs.Films.{oldBytes}
 use Rattle.old_film.specs.Finding as old
 use Rattle.old_film.proofs.Promises.{FoundAgain}
 use Rattle.old_film_many.specs.Audios.{isMany}
 use Rattle.old_film_many.proofs.Promises.{SeveralAreTold}
 use Rattle.moved_film.specs.Finding as new
-use Rattle.film_move.specs.FromOld.{newBytes, fromOld, FromOld}
+use Rattle.moved_film.proofs.Promises as new-film
+use Rattle.film_move.specs.FromOld.{packingOf, newBytes, fromOld, FromOld}
 use Rattle.film_move.specs.ToOld.{oldOf, toOld}
+use Rattle.film_move.proofs.ToLaws.{is-rebuilt}
 use Rattle.promises_move.specs.Promises as promised
-use Rattle.promises_move.specs.Promises.{Gives, Moved, Built}
-use Rattle.promises_move.proofs.AgainLaws.{moved-taken, film-short, back-is, back-planned, new-short, onward-is, onward-planned, back-so}
+use Rattle.promises_move.specs.Promises.{Gives, RefusesBy, Moved, Built}
+use Rattle.promises_move.proofs.AgainLaws.{moved-so, moved-taken, film-short, back-is, back-planned, new-short, onward-is, onward-planned, back-so}
 use Rattle.promises_move.proofs.BuiltLaws.{film-longer, several-not-one, one-built, many-built}
 
 -- ---- what was put at the front of an output stands there
@@ -77,6 +89,11 @@ NewAgain c out out′ size back back′ r w room b =
 
 -- ---- what is refused by 19 and 20
 
+-- what is refused before an output is looked at is refused
+refuses : (cause : Cause) (planned r : Written) (bytes out out′ : List ℕ) → planned ≡ refusedBy cause → r ≡ writtenIn (length out) planned → out′ ≡ leftBy r out bytes
+    → RefusesBy cause out r out′
+refuses cause planned r bytes out out′ p e f = let q : r ≡ refusedBy cause = e ∙ ap (writtenIn (length out)) p in (q, f ∙ ap (λ (t : Written). leftBy t out bytes) q)
+
 not-built : (c : List ℕ) (mpeg other : Codec) (t u : Bool) → length c ≤ 0x40000000 → old.isOld c ≡ t → isMany c ≡ u → (Built c → ⊥) → fromOld c mpeg other ≡ refusedBy Foreign
 unfolding fromOld
 not-built c mpeg other true u within e f h = absurd (h (one-built c e))
@@ -84,13 +101,15 @@ not-built c mpeg other false true within e f h = absurd (h (many-built c f))
 not-built c mpeg other false false within e f h = rw (le-ltb 0x40000000 (length c) within, e, f)
 
 pub ForeignIsNotBuilt : promised.ForeignIsNotBuilt
-ForeignIsNotBuilt c mpeg other within h = not-built c mpeg other (old.isOld c) (isMany c) within refl refl h
+ForeignIsNotBuilt c mpeg other out out′ r w within h =
+    refuses Foreign (fromOld c mpeg other) r (newBytes (old.partsOf c) mpeg other) out out′ (not-built c mpeg other (old.isOld c) (isMany c) within refl refl h) (w .0) (w .1)
 
-pub SeveralAreRefused : promised.SeveralAreRefused
+several-told : (name video : List ℕ) (audios : List (List ℕ)) (mpeg other : Codec) → isUtf8 name ≡ true → 1 < length audios → length (oldBytes name video audios) ≤ 0x40000000
+    → fromOld (oldBytes name video audios) mpeg other ≡ refusedBy ManyAudios
 unfolding fromOld
-SeveralAreRefused name video [] mpeg other utf8 several within = absurd (omega arith)
-SeveralAreRefused name video (some ∷ []) mpeg other utf8 several within = absurd (omega arith)
-SeveralAreRefused name video (some ∷ (next ∷ audios)) mpeg other utf8 several within =
+several-told name video [] mpeg other utf8 several within = absurd (omega arith)
+several-told name video (some ∷ []) mpeg other utf8 several within = absurd (omega arith)
+several-told name video (some ∷ (next ∷ audios)) mpeg other utf8 several within =
     let longer = film-longer name video (some ∷ (next ∷ audios)) in
     rw (
       le-ltb 0x40000000 (length (oldBytes name video (some ∷ (next ∷ audios)))) within,
@@ -98,12 +117,80 @@ SeveralAreRefused name video (some ∷ (next ∷ audios)) mpeg other utf8 severa
       SeveralAreTold name video (some ∷ (next ∷ audios)) utf8 (omega (arith, longer)) several (omega (arith, longer)),
     )
 
-pub OthersAreWritten : promised.OthersAreWritten
+pub SeveralAreRefused : promised.SeveralAreRefused
+SeveralAreRefused name video audios mpeg other out out′ r utf8 several within w =
+    let film = oldBytes name video audios in
+    refuses ManyAudios (fromOld film mpeg other) r (newBytes (old.partsOf film) mpeg other) out out′ (several-told name video audios mpeg other utf8 several within) (w .0) (w .1)
+
+-- ---- what is written
+
+-- audio that is not there is none
+spoken : (audio : Bool) (sound : List ℕ) → (audio ≡ false → sound ≡ []) → sound ≡ cond audio sound []
+spoken true sound silent = refl
+spoken false sound silent = silent refl
+
+others-planned : (name video : List ℕ) (audio : Bool) (sound : List ℕ) (mpeg other : Codec) → isUtf8 name ≡ true → (audio ≡ false → sound ≡ [])
+    → length (oldBytes name video (old.audiosOf audio sound)) ≤ 0x40000000
+    → (fromOld (oldBytes name video (old.audiosOf audio sound)) mpeg other ≡ plannedOf name video sound (packingOf audio mpeg other))
+    × (newBytes (old.partsOf (oldBytes name video (old.audiosOf audio sound))) mpeg other ≡ filmBytes name video sound (packingOf audio mpeg other))
 unfolding fromOld
-OthersAreWritten name video audio sound mpeg other utf8 silent within =
+others-planned name video audio sound mpeg other utf8 silent within =
     let longer = film-longer name video (old.audiosOf audio sound) in
-    let found = FoundAgain name video audio sound utf8 (omega (arith, longer)) silent in
-    rw (le-ltb 0x40000000 (length (oldBytes name video (old.audiosOf audio sound))) within, found .0, found .1 .0, found .1 .1, found .1 .3, found .1 .4)
+    let found = FoundAgain name video audio sound utf8 (omega (arith, longer)) silent in (
+      rw (le-ltb 0x40000000 (length (oldBytes name video (old.audiosOf audio sound))) within, found .0, found .1 .0, found .1 .1, found .1 .3, found .1 .4),
+      rw (found .1 .0, found .1 .1, found .1 .3, found .1 .4),
+    )
+
+pub OthersAreWritten : promised.OthersAreWritten
+OthersAreWritten name video audio sound mpeg other out out′ r utf8 silent within w =
+    let planned = others-planned name video audio sound mpeg other utf8 silent within in
+    let by = packingOf audio mpeg other in
+    subst (λ (l : List ℕ). WritingOf name video l by out r out′) (spoken audio sound silent)
+    (w .0 ∙ ap (writtenIn (length out)) (planned .0), w .1 ∙ ap (leftBy r out) (planned .1))
+
+pub MovedIsRead : promised.MovedIsRead
+MovedIsRead name video sound packing out out′ size reading seen heard seen′ heard′ r utf8 silent mpeg other w chosen v a x =
+    let by = unmaskingOf (packing .key) (packing .«audio_codec») in
+    let seen-stored = storedIn packing Video video in
+    let heard-stored = storedIn packing Audio sound in
+    let quiet : packing .audio ≡ false → heard-stored ≡ [] = λ e. ap (storedIn packing Audio) (silent e) ∙ none-stored by in
+    let film = oldBytes name seen-stored (old.audiosOf (packing .audio) heard-stored) in
+    let so = planned-so (length out) (fromOld film (packing .«mpeg_codec») (packing .«audio_codec»)) size (sym (w .0)) in
+    let within = moved-so film (packing .«mpeg_codec») (packing .«audio_codec») size (so .0) .0 in
+    let stored = OthersAreWritten name seen-stored (packing .audio) heard-stored (packing .«mpeg_codec») (packing .«audio_codec») out out′ (Size size) utf8 quiet within w in
+    let written = KeyedIsStored name video sound packing out out′ (Size size) .1 stored in
+    let all : sound ≡ audioIn packing sound = spoken (packing .audio) sound silent in
+    subst (λ (l : List ℕ). GivesBack name video l packing (take size out′) seen heard r seen′ heard′) (sym all)
+    (ReadingBack name video sound packing out out′ size reading seen heard seen′ heard′ r mpeg other written chosen v (subst (λ (l : List ℕ). length l ≤ length heard) all a) x)
+
+-- ---- and back
+
+-- audio that is stored where there is some
+audios-stored : (audio : Bool) (stored : List ℕ) → old.audiosOf audio (cond audio stored []) ≡ old.audiosOf audio stored
+audios-stored true stored = refl
+audios-stored false stored = refl
+
+pub WrittenGoesBack : promised.WrittenGoesBack
+unfolding toOld
+WrittenGoesBack name video audio packing out out′ size back back′ r utf8 mpeg other w b =
+    let seen-stored = storedIn packing Video video in
+    let heard-stored = storedIn packing Audio audio in
+    let none = withoutKey packing in
+    let stored = KeyedIsStored name video audio packing out out′ (Size size) .0 w in
+    let heard = audioIn none heard-stored in
+    let bytes = filmBytes name seen-stored heard none in
+    let so = planned-so (length out) (plannedOf name seen-stored heard none) size (sym (stored .0)) in
+    let taken-up = accepted name seen-stored heard none size (so .0) in
+    let quiet : packing .audio ≡ false → heard ≡ [] = λ e. ap (λ (t : Bool). cond t heard-stored []) e in
+    let found = new-film.FoundAgain name seen-stored heard none size utf8 refl mpeg other quiet (so .0) in
+    let written : take size out′ ≡ bytes = ap (take size) (stored .1) ∙ taken out bytes size (taken-up .sized) (so .1) in
+    let film = oldBytes name seen-stored (old.audiosOf (packing .audio) heard-stored) in
+    let gives : oldOf (new.partsOf bytes) ≡ film =
+    rw (found .1 .0, found .1 .1, found .1 .3, found .1 .4) (ap (oldBytes name seen-stored) (audios-stored (packing .audio) heard-stored)) in
+    let planned : toOld bytes ≡ Size (length film) = rw (le-ltb 0x40000000 (length bytes) (taken-up .within), found .0) (ap (λ (l : List ℕ). Size (length l)) gives) in (
+      b .0 ∙ ap (λ (l : List ℕ). writtenIn (length back) (toOld l)) written ∙ ap (writtenIn (length back)) planned,
+      b .1 ∙ ap (λ (l : List ℕ). leftBy r back (oldOf (new.partsOf l))) written ∙ ap (leftBy r back) gives,
+    )
 
 moved-back : (c : List ℕ) → Moved c → toOld c ≡ Size (length (oldOf (new.partsOf c)))
 moved-back c (film, (mpeg, (other, h))) =
@@ -123,7 +210,14 @@ not-moved c within true e h = absurd (h (moved c e within))
 not-moved c within false e h = rw (le-ltb 0x40000000 (length c) within, e)
 
 pub ForeignIsNotMoved : promised.ForeignIsNotMoved
-ForeignIsNotMoved c within = (moved-back c, not-moved c within (new.isNew c) refl)
+ForeignIsNotMoved c out out′ r w within = (
+  λ m.
+      let planned = moved-back c m in
+      let is = back-so c (length (oldOf (new.partsOf c))) planned in
+      let film = oldOf (new.partsOf c) in
+      (film, ((new.partsOf c .name, (new.partsOf c .read .video, (_, (is-rebuilt c (is .1) .0, refl)))), (w .0 ∙ ap (writtenIn (length out)) planned, w .1))),
+  λ h. refuses Foreign (toOld c) r (oldOf (new.partsOf c)) out out′ (not-moved c within (new.isNew c) refl h) (w .0) (w .1),
+)
 
 -- ---- sizes, and refusals
 

@@ -5,18 +5,28 @@ use mathlib.Core.List.{List, []}
 use mathlib.Core.Bool.{Bool, true, false}
 use lib.ListN.{length, take}
 use lib.Seq.{sets}
+use Rattle.refusal.specs.declared.Cause.{Cause}
 use Rattle.refusal.specs.declared.Cause.the-variants.{Foreign, ManyAudios}
 use Rattle.refusal.specs.declared.Refusal.{Refusal}
 use Rattle.codec.specs.declared.Codec.{Codec}
 use Rattle.lent.specs.declared.Written.{Written}
 use Rattle.lent.specs.declared.Written.the-variants.{Size, Refused}
+use Rattle.lent.specs.Written.{writtenIn, leftBy}
 use Rattle.utf8.specs.Utf8.{isUtf8}
-use Rattle.write_plan.specs.Planning.{refusedBy, plannedOf}
+use Rattle.reading.specs.declared.Reading.{Reading}
+use Rattle.reading.specs.Choices.{takesChannel}
+use Rattle.extract.specs.declared.Extracted.{Extracted}
+use Rattle.extract.specs.Extraction.{Extraction}
+use Rattle.write_plan.specs.declared.Packing.{Packing}
+use Rattle.write_plan.specs.declared.Stream.the-variants.{Video, Audio}
+use Rattle.write_plan.specs.Planning.{refusedBy}
+use Rattle.write.specs.Writing.{Writing}
+use Rattle.promises_write.specs.Promises.{CodecFits, GivesBack, storedIn}
 use Rattle.old_film.specs.Films.{oldBytes}
 use Rattle.old_film.specs.Finding.{audiosOf}
 use Rattle.moved_film.specs.Finding.{partsOf}
-use Rattle.film_move.specs.FromOld.{packingOf, fromOld, FromOld}
-use Rattle.film_move.specs.ToOld.{oldOf, toOld, ToOld}
+use Rattle.film_move.specs.FromOld.{packingOf, FromOld}
+use Rattle.film_move.specs.ToOld.{ToOld}
 
 -- an answer, and an output after it, that give bytes: they are as many as it says, and stand at the output's front
 abbrev pub Gives : List ℕ → List ℕ → Written → List ℕ → Type 0
@@ -43,24 +53,56 @@ NewAgain =
 abbrev pub Built : List ℕ → Type 0
 Built container = (name : List ℕ) × ((video : List ℕ) × ((audios : List (List ℕ)) × ((isUtf8 name ≡ true) × (container ≡ oldBytes name video audios))))
 
+-- an answer that refuses at place 0, and leaves the output
+abbrev pub RefusesBy : Cause → List ℕ → Written → List ℕ → Type 0
+RefusesBy cause out r out′ = (r ≡ refusedBy cause) × (out′ ≡ out)
+
 -- "19 not exactly what that builder writes for one video and its audios": of containers within the limit, each that it does not write is refused by 19
 abbrev pub ForeignIsNotBuilt : Type 0
 ForeignIsNotBuilt =
-    (container : List ℕ) (mpeg-codec audio-codec : Codec) → length container ≤ 0x40000000 → (Built container → ⊥)
-    → fromOld container mpeg-codec audio-codec ≡ refusedBy Foreign
+    (container : List ℕ) (mpeg-codec audio-codec : Codec) (out out′ : List ℕ) (r : Written) → FromOld container mpeg-codec audio-codec out r out′
+    → length container ≤ 0x40000000 → (Built container → ⊥) → RefusesBy Foreign out r out′
 
 -- "20 more than one audio": each that it writes for several audios is refused by 20
 abbrev pub SeveralAreRefused : Type 0
 SeveralAreRefused =
-    (name video : List ℕ) (audios : List (List ℕ)) (mpeg-codec audio-codec : Codec) → isUtf8 name ≡ true → 1 < length audios → length (oldBytes name video audios) ≤ 0x40000000
-    → fromOld (oldBytes name video audios) mpeg-codec audio-codec ≡ refusedBy ManyAudios
+    (name video : List ℕ) (audios : List (List ℕ)) (mpeg-codec audio-codec : Codec) (out out′ : List ℕ) (r : Written)
+    → isUtf8 name ≡ true → 1 < length audios → length (oldBytes name video audios) ≤ 0x40000000
+    → FromOld (oldBytes name video audios) mpeg-codec audio-codec out r out′ → RefusesBy ManyAudios out r out′
 
--- "then 23, 11 for the result, 15 and 16": each that it writes for one audio, or none, is answered as request 1 answers for the same name and streams
+-- "then 23, 11 for the result, 15 and 16": for each that it writes for one audio, or none, the answer and the output are those of request 1 for the same name and streams,
+-- without a key
 abbrev pub OthersAreWritten : Type 0
 OthersAreWritten =
-    (name video : List ℕ) (audio : Bool) (sound : List ℕ) (mpeg-codec audio-codec : Codec) → isUtf8 name ≡ true → (audio ≡ false → sound ≡ [])
-    → length (oldBytes name video (audiosOf audio sound)) ≤ 0x40000000
-    → fromOld (oldBytes name video (audiosOf audio sound)) mpeg-codec audio-codec ≡ plannedOf name video sound (packingOf audio mpeg-codec audio-codec)
+    (name video : List ℕ) (audio : Bool) (sound : List ℕ) (mpeg-codec audio-codec : Codec) (out out′ : List ℕ) (r : Written)
+    → isUtf8 name ≡ true → (audio ≡ false → sound ≡ []) → length (oldBytes name video (audiosOf audio sound)) ≤ 0x40000000
+    → FromOld (oldBytes name video (audiosOf audio sound)) mpeg-codec audio-codec out r out′ → Writing name video sound (packingOf audio mpeg-codec audio-codec) out r out′
+
+-- "Payloads travel as stored": a film of the builder whose payloads are masked under a key, or under none, moved with the codecs of a packing, is extracted under that key, and
+-- with audio taken, to its name, these codecs and both streams in the clear
+abbrev pub MovedIsRead : Type 0
+MovedIsRead =
+    (name video sound : List ℕ) (packing : Packing) (out out′ : List ℕ) (size : ℕ) (reading : Reading) (seen heard seen′ heard′ : List ℕ) (r : Extracted)
+    → isUtf8 name ≡ true → (packing .audio ≡ false → sound ≡ []) → CodecFits (packing .«mpeg_codec») → CodecFits (packing .«audio_codec»)
+    → FromOld (oldBytes name (storedIn packing Video video) (audiosOf (packing .audio) (storedIn packing Audio sound))) (packing .«mpeg_codec») (packing .«audio_codec») out (Size size) out′
+    → takesChannel (reading .audio) 0 ≡ true → length video ≤ length seen → length sound ≤ length heard
+    → Extraction (take size out′) reading (packing .key) seen heard r seen′ heard′
+    → GivesBack name video sound packing (take size out′) seen heard r seen′ heard′
+
+-- ---- and back
+
+-- the answer and the output where the builder's film is to be written: all of it, or 16
+abbrev pub BuiltInto : List ℕ → List ℕ → Written → List ℕ → Type 0
+BuiltInto film out r out′ = (r ≡ writtenIn (length out) (Size (length film))) × (out′ ≡ leftBy r out film)
+
+-- the same back: what request 1 writes for a name in UTF-8, with a key or without one, is moved back to what the builder writes for that name and for the streams as they are
+-- stored
+abbrev pub WrittenGoesBack : Type 0
+WrittenGoesBack =
+    (name video audio : List ℕ) (packing : Packing) (out out′ : List ℕ) (size : ℕ) (back back′ : List ℕ) (r : Written)
+    → isUtf8 name ≡ true → CodecFits (packing .«mpeg_codec») → CodecFits (packing .«audio_codec»)
+    → Writing name video audio packing out (Size size) out′ → ToOld (take size out′) back r back′
+    → BuiltInto (oldBytes name (storedIn packing Video video) (audiosOf (packing .audio) (storedIn packing Audio audio))) back r back′
 
 -- the move writes a container: from some film, with some codecs, wherever there is room for it
 abbrev pub Moved : List ℕ → Type 0
@@ -68,11 +110,11 @@ Moved container =
     (film : List ℕ) × ((mpeg-codec : Codec) × ((audio-codec : Codec)
     × ((out out′ : List ℕ) (r : Written) → length container ≤ length out → FromOld film mpeg-codec audio-codec out r out′ → Gives container out r out′)))
 
--- "19 .. a container the move did not write": a container that it writes is moved back, and of those within the limit every other is refused by 19
+-- "19 .. a container the move did not write": of a container that it writes the film of the builder is written, and of those within the limit every other is refused by 19
 abbrev pub ForeignIsNotMoved : Type 0
 ForeignIsNotMoved =
-    (container : List ℕ) → length container ≤ 0x40000000
-    → (Moved container → toOld container ≡ Size (length (oldOf (partsOf container)))) × ((Moved container → ⊥) → toOld container ≡ refusedBy Foreign)
+    (container out out′ : List ℕ) (r : Written) → ToOld container out r out′ → length container ≤ 0x40000000
+    → (Moved container → (film : List ℕ) × (Built film × BuiltInto film out r out′)) × ((Moved container → ⊥) → RefusesBy Foreign out r out′)
 
 -- the builder's film is never longer than the container that it is moved to, so that the way back has no 11 for its result
 abbrev pub OldIsShorter : Type 0

@@ -7,4 +7,5 @@ pub mod WalkBackLaws
 pub mod StreamBackLaws
 pub mod HeaderBackLaws
 pub mod FilmBackLaws
+pub mod StoredLaws
 pub mod Promises

@@ -29,6 +29,7 @@ use Rattle.write.specs.Writing.{Writing}
 use Rattle.promises_write.specs.Promises as promised
 use Rattle.promises_write.specs.Promises.{CodecFits, headerBack, contentsBack, GivesBack}
 use Rattle.promises_write.specs.Listing.{linesOf, chunksFrom}
+use Rattle.promises_write.proofs.StoredLaws.{film-stored, plan-stored, audio-stored}
 use Rattle.promises_write.proofs.FilmBackLaws.{film-is, video-is, audio-is, name-is}
 
 -- ---- what is known of a film that was written
@@ -116,3 +117,13 @@ pub ListingBack : promised.ListingBack
 ListingBack name video audio packing out out′ size reading mpeg other w chosen =
     ap (λ (l : List ℕ). filmOf l reading) (written-is name video audio packing out out′ size mpeg other w reading chosen)
     ∙ film-read name video audio packing out out′ size mpeg other w reading chosen
+
+-- ---- as it is stored
+
+pub KeyedIsStored : promised.KeyedIsStored
+KeyedIsStored name video audio packing out out′ r =
+    let heard = audioIn packing audio in
+    let spoken = audio-stored packing audio in
+    let plan = plan-stored name video heard packing in
+    let bytes = film-stored name video heard packing in
+    (λ w. rw (spoken, ← plan, ← bytes) w, λ w. rw (plan, bytes, ← spoken) w)

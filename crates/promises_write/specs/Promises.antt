@@ -1,7 +1,8 @@
 -- That what is written is read back. Each is proved under the same name in proofs/Promises.antt.
 use Prim.Native.Nat.{ℕ, _^_, _≤_, _<_}
 use mathlib.Core.Path.{_≡_}
-use mathlib.Core.List.{List}
+use mathlib.Core.Logic.{_↔_}
+use mathlib.Core.List.{List, [], _∷_, _++_}
 use mathlib.Core.Bool.{true, cond}
 use lib.ListN.{length, take}
 use lib.Seq.{sets}
@@ -9,14 +10,21 @@ use lib.Dec.{eqb}
 use Rattle.reading.specs.declared.Reading.{Reading}
 use Rattle.reading.specs.Choices.{takesChannel, appliedTo}
 use Rattle.key.specs.CountingBits.{AgreeWhereItCounts}
+use Rattle.unmasking.specs.declared.Key.the-variants as key
 use Rattle.unmasking.specs.declared.Key.the-variants.{Given}
+use Rattle.unmasking.specs.declared.Unmasking.{Unmasking}
+use Rattle.unmasking.specs.Unmasking.{unmaskingOf}
 use Rattle.part.specs.Parts.{partAt}
 use Rattle.film.specs.Films.{film, filmOf}
 use Rattle.extract.specs.declared.Contents.{Contents}
 use Rattle.extract.specs.declared.Extracted.{Extracted}
 use Rattle.extract.specs.declared.Extracted.the-variants as extracted
 use Rattle.extract.specs.Extraction.{contentsOf, Extraction}
+use Rattle.lent.specs.declared.Written.{Written}
 use Rattle.lent.specs.declared.Written.the-variants.{Size}
+use Rattle.write_plan.specs.declared.Stream.{Stream}
+use Rattle.write_plan.specs.declared.Stream.the-variants.{Video, Audio}
+use Rattle.write_plan.specs.Payloads.{payloadsOf, storedAs}
 use Rattle.write_plan.specs.Films.{bytesOf, headerBlocks, audioIn}
 use Rattle.write.specs.Writing.{Writing}
 use Rattle.promises_write.specs.Listing.{linesOf, chunksFrom}
@@ -79,3 +87,21 @@ ListingBack =
     → filmOf (take size out′) reading
     ≡ film (headerBack name packing (length (bytesOf (headerBlocks name packing)))) (appliedTo (packing .audio) reading)
     (chunksFrom (length (bytesOf (headerBlocks name packing))) (linesOf video (audioIn packing audio) (packing .audio)))
+
+-- payloads as they are stored, one after the other
+unfoldable pub storedFrom : Unmasking → Stream → List (List ℕ) → List ℕ
+storedFrom by stream [] = []
+storedFrom by stream (payload ∷ payloads) = storedAs by stream payload ++ storedFrom by stream payloads
+
+-- a stream as it stands in a film: each payload masked by itself, if there is a key
+abbrev pub storedIn : Packing → Stream → List ℕ → List ℕ
+storedIn packing stream bytes = storedFrom (unmaskingOf (packing .key) (packing .«audio_codec»)) stream (payloadsOf bytes)
+
+abbrev pub withoutKey : Packing → Packing
+withoutKey packing = record { audio = packing .audio; «mpeg_codec» = packing .«mpeg_codec»; «audio_codec» = packing .«audio_codec»; key = key.Absent }
+
+-- A film that is written with a key is, byte for byte, the one that is written without a key from its streams as they are stored; what is refused is refused alike.
+abbrev pub KeyedIsStored : Type 0
+KeyedIsStored =
+    (name video audio : List ℕ) (packing : Packing) (out out′ : List ℕ) (r : Written)
+    → Writing name video audio packing out r out′ ↔ Writing name (storedIn packing Video video) (storedIn packing Audio audio) (withoutKey packing) out r out′
