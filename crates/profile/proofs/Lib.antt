@@ -1,3 +1,6 @@
 pub mod RuleLaws
 pub mod JudgeLaws
+pub mod StandLaws
+pub mod ClosedLaws
+pub mod Promises
 pub mod OneAnswer
