@@ -1,10 +1,10 @@
--- What is found with all audio is found with one channel of it too: only of a chunk of another channel is the payload skipped. Assumes nothing.
+-- What is found with more audio is found with less of it too: only of a chunk of a channel that is not kept is the payload skipped. Assumes nothing.
 use mathlib.Core.Path.{_≡_, refl, sym, ap, _∙_}
 use mathlib.Core.List.{List}
 use mathlib.Core.Bool.{Bool, true, false, cond, _&&_}
 use Prim.Native.Nat.{ℕ, _+_, _-_}
 use lib.ListN.{length}
-use lib.Dec.{eqb, ltb}
+use lib.Dec.{ltb}
 use Rattle.refusal.specs.declared.Cause.the-variants.{RanOut, TooSmall, ShortHeader}
 use Rattle.reading.specs.declared.PayloadMode.{PayloadMode}
 use Rattle.reading.specs.declared.Applied.{Applied}
@@ -16,27 +16,27 @@ use Rattle.chunk.specs.declared.Chunk.{Chunk}
 use Rattle.chunk.specs.declared.ChunkStep.the-variants.{Found}
 use Rattle.chunk.specs.Openings.{openingAt}
 use Rattle.chunk.specs.Chunks.{isTaken, offsetOf, isShort, chunkOf, heldAt, takenAt, openedAt, chunkAt}
-use Rattle.chunk.specs.Channels.{isBeside, skipped, only}
+use Rattle.chunk.specs.Channels.{isLeft, skipped, keeping}
 use Rattle.chunk.proofs.FoundLaws.{not-over, not-refused}
 
--- `one` takes the audio of one channel, of what `all` takes, from the same places
-pub record OneOf (chosen : ℕ) (all one : Applied) : Type 0 where
+-- `one` takes the audio of the channels that are kept, of what `all` takes, from the same places
+pub record Some (kept : ℕ → Bool) (all one : Applied) : Type 0 where
   pub mode : one .payloads ≡ all .payloads
-  pub takes : (channel : ℕ) → takesChannel (one .audio) channel ≡ (takesChannel (all .audio) channel && eqb channel chosen)
+  pub takes : (channel : ℕ) → takesChannel (one .audio) channel ≡ (takesChannel (all .audio) channel && kept channel)
 
-module _ (chosen : ℕ) (chunk : Chunk) where
-  as-it-is : isBeside chosen (chunk .kind) (chunk .channel) ≡ false → only chosen chunk ≡ chunk
-  unfolding only
+module _ (kept : ℕ → Bool) (chunk : Chunk) where
+  as-it-is : isLeft kept (chunk .kind) (chunk .channel) ≡ false → keeping kept chunk ≡ chunk
+  unfolding keeping
   as-it-is e = rw e
 
-  without-payload : isBeside chosen (chunk .kind) (chunk .channel) ≡ true → only chosen chunk ≡ skipped chunk
-  unfolding only
+  without-payload : isLeft kept (chunk .kind) (chunk .channel) ≡ true → keeping kept chunk ≡ skipped chunk
+  unfolding keeping
   without-payload e = rw e
 
 -- the next chunk stands where it stood
-pub only-next : (chosen : ℕ) (chunk : Chunk) → only chosen chunk .next ≡ chunk .next
-unfolding only
-only-next chosen chunk = by-test (isBeside chosen (chunk .kind) (chunk .channel))
+pub keeping-next : (kept : ℕ → Bool) (chunk : Chunk) → keeping kept chunk .next ≡ chunk .next
+unfolding keeping
+keeping-next kept chunk = by-test (isLeft kept (chunk .kind) (chunk .channel))
   where
     by-test : (t : Bool) → cond t (skipped chunk) chunk .next ≡ chunk .next
     by-test true = refl
@@ -66,35 +66,35 @@ module _ (container : List ℕ) (c : ℕ) (opening : Opening) (chunk : Chunk) wh
   of-skipped : Found (chunkOf c opening 0x20 0) ≡ Found chunk → Made
   of-skipped e = of-opening 0x20 0 (cc)
 
-  module _ (chosen : ℕ) where
+  module _ (kept : ℕ → Bool) where
     -- not audio
-    stays : Made → (kind : Kind) → opening .kind ≡ kind → isBeside chosen kind (chunk .channel) ≡ false → Found chunk ≡ Found (only chosen chunk)
-    stays made kind k e = ap Found (sym (as-it-is chosen chunk (rw (made .kind ∙ k) e)))
+    stays : Made → (kind : Kind) → opening .kind ≡ kind → isLeft kept kind (chunk .channel) ≡ false → Found chunk ≡ Found (keeping kept chunk)
+    stays made kind k e = ap Found (sym (as-it-is kept chunk (rw (made .kind ∙ k) e)))
 
     -- audio, by whether it is taken with all, and is of the channel
-    by-channel : (mode : PayloadMode) → opening .kind ≡ Audio → (s t : Bool) → eqb (opening .channel) chosen ≡ t → cond s (takenAt (length container) mode c opening) (Found (chunkOf c opening 0x20 0)) ≡ Found chunk
-        → cond (s && t) (takenAt (length container) mode c opening) (Found (chunkOf c opening 0x20 0)) ≡ Found (only chosen chunk)
-    by-channel mode k true true q e = let m = of-taken mode e in e ∙ ap Found (sym (as-it-is chosen chunk (rw (m .kind ∙ k, m .channel, q))))
-    by-channel mode k true false q e = let m = of-taken mode e in ap Found (sym (without-payload chosen chunk (rw (m .kind ∙ k, m .channel, q)) ∙ m .bare))
-    by-channel mode k false true q e = let m = of-skipped e in e ∙ ap Found (sym (as-it-is chosen chunk (rw (m .kind ∙ k, m .channel, q))))
-    by-channel mode k false false q e = let m = of-skipped e in ap Found (sym (without-payload chosen chunk (rw (m .kind ∙ k, m .channel, q)) ∙ m .bare))
+    by-channel : (mode : PayloadMode) → opening .kind ≡ Audio → (s t : Bool) → kept (opening .channel) ≡ t → cond s (takenAt (length container) mode c opening) (Found (chunkOf c opening 0x20 0)) ≡ Found chunk
+        → cond (s && t) (takenAt (length container) mode c opening) (Found (chunkOf c opening 0x20 0)) ≡ Found (keeping kept chunk)
+    by-channel mode k true true q e = let m = of-taken mode e in e ∙ ap Found (sym (as-it-is kept chunk (rw (m .kind ∙ k, m .channel, q))))
+    by-channel mode k true false q e = let m = of-taken mode e in ap Found (sym (without-payload kept chunk (rw (m .kind ∙ k, m .channel, q)) ∙ m .bare))
+    by-channel mode k false true q e = let m = of-skipped e in e ∙ ap Found (sym (as-it-is kept chunk (rw (m .kind ∙ k, m .channel, q))))
+    by-channel mode k false false q e = let m = of-skipped e in ap Found (sym (without-payload kept chunk (rw (m .kind ∙ k, m .channel, q)) ∙ m .bare))
 
-    module _ (all one : Applied) (narrow : OneOf chosen all one) (mode : PayloadMode) where
+    module _ (all one : Applied) (narrow : Some kept all one) (mode : PayloadMode) where
       by-kind : (kind : Kind) → opening .kind ≡ kind
           → cond (isTaken all kind (opening .channel)) (takenAt (length container) mode c opening) (Found (chunkOf c opening 0x20 0)) ≡ Found chunk
-          → cond (isTaken one kind (opening .channel)) (takenAt (length container) mode c opening) (Found (chunkOf c opening 0x20 0)) ≡ Found (only chosen chunk)
+          → cond (isTaken one kind (opening .channel)) (takenAt (length container) mode c opening) (Found (chunkOf c opening 0x20 0)) ≡ Found (keeping kept chunk)
       by-kind Video k e = e ∙ stays (of-taken mode e) Video k refl
-      by-kind Audio k e = rw (narrow .takes (opening .channel)) (by-channel mode k (takesChannel (all .audio) (opening .channel)) (eqb (opening .channel) chosen) refl e)
+      by-kind Audio k e = rw (narrow .takes (opening .channel)) (by-channel mode k (takesChannel (all .audio) (opening .channel)) (kept (opening .channel)) refl e)
       by-kind Other k e = e ∙ stays (of-skipped e) Other k refl
       by-kind End k e = e ∙ stays (of-skipped e) End k refl
 
-module _ (chosen : ℕ) (container : List ℕ) (all one : Applied) (narrow : OneOf chosen all one) (c : ℕ) where
-  pub only-found : (chunk : Chunk) → chunkAt container all c ≡ Found chunk → chunkAt container one c ≡ Found (only chosen chunk)
+module _ (kept : ℕ → Bool) (container : List ℕ) (all one : Applied) (narrow : Some kept all one) (c : ℕ) where
+  pub keeping-found : (chunk : Chunk) → chunkAt container all c ≡ Found chunk → chunkAt container one c ≡ Found (keeping kept chunk)
   unfolding chunkAt openedAt
-  only-found chunk e =
+  keeping-found chunk e =
       let opening = openingAt container c in
       let a = not-over (ltb (length container - c) 4) chunk _ e in
       let b = not-refused (ltb (length container - c) 45) c RanOut chunk _ (a .1) in
       rw (a .0, b .0)
       (ap (λ (mode : PayloadMode). cond (isTaken one (opening .kind) (opening .channel)) (takenAt (length container) mode c opening) (Found (chunkOf c opening 0x20 0))) (narrow .mode)
-      ∙ by-kind container c opening chunk chosen all one narrow (all .payloads) (opening .kind) refl (b .1))
+      ∙ by-kind container c opening chunk kept all one narrow (all .payloads) (opening .kind) refl (b .1))

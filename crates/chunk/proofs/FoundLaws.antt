@@ -1,6 +1,7 @@
 -- What is known of a chunk that was found: it has its 45 bytes, its kind and its channel are its opening's, its data type is below 4, its payload lies behind its first 8 bytes, no
 -- further than its header reaches and in the container, and the next place lies past its length. All this in both payload modes. Assumes nothing.
 use mathlib.Core.Path.{_≡_, refl}
+use mathlib.Core.Logic.{_⊎_, inl, inr}
 use mathlib.Core.List.{List}
 use mathlib.Core.Bool.{Bool, true, false, cond}
 use Prim.Native.Nat.{ℕ, _+_, _-_, _≤_, _<_}
@@ -85,6 +86,108 @@ found container reading c chunk e =
     let a = not-over (ltb (length container - c) 4) chunk _ e in
     let b = not-refused (ltb (length container - c) 45) c RanOut chunk _ (a .1) in
     of-either container c chunk (ltb-false (length container - c) 45 (b .0)) (reading .payloads) (isTaken reading (openingAt container c .kind) (openingAt container c .channel)) (b .1)
+
+-- ---- which chunk was found
+
+module _ (container : List ℕ) (mode : PayloadMode) (c : ℕ) (chunk : Chunk) where
+  abbrev here : Opening
+  here = openingAt container c
+
+  abbrev spare : ℕ
+  spare = here .header + here .footer
+
+  made-taken : takenAt (length container) mode c here ≡ Found chunk → (chunkOf c here (offsetOf mode here) (here .block - spare) ≡ chunk) × (spare ≤ here .block)
+  unfolding takenAt heldAt
+  made-taken e =
+      let offset = offsetOf mode here in
+      let n = here .block - spare in
+      let a = not-refused (isShort mode here) c ShortHeader chunk _ e in
+      let b = not-refused (ltb (here .block) spare) c TooSmall chunk _ (a .1) in
+      let d = not-refused (ltb (length container) (c + offset + n)) c RanOut chunk _ (b .1) in
+      (cc, ltb-false (here .block) spare (b .0))
+
+  made-skipped : Found (chunkOf c here 0x20 0) ≡ Found chunk → chunkOf c here 0x20 0 ≡ chunk
+  made-skipped e = cc
+
+-- past both tests of what is left
+module _ (container : List ℕ) (reading : Applied) (c : ℕ) (chunk : Chunk) (e : chunkAt container reading c ≡ Found chunk) where
+  abbrev takes : Bool
+  takes = isTaken reading (openingAt container c .kind) (openingAt container c .channel)
+
+  opened : cond takes (takenAt (length container) (reading .payloads) c (openingAt container c)) (Found (chunkOf c (openingAt container c) 0x20 0)) ≡ Found chunk
+  unfolding chunkAt openedAt
+  opened =
+      let a = not-over (ltb (length container - c) 4) chunk _ e in
+      not-refused (ltb (length container - c) 45) c RanOut chunk _ (a .1) .1
+
+  pub found-taken : takes ≡ true
+      → (chunkOf c (openingAt container c) (offsetOf (reading .payloads) (openingAt container c)) (openingAt container c .block - (openingAt container c .header + openingAt container c .footer)) ≡ chunk)
+      × (openingAt container c .header + openingAt container c .footer ≤ openingAt container c .block)
+  found-taken t = made-taken container (reading .payloads) c chunk (rw t at opened)
+
+  pub found-skipped : takes ≡ false → chunkOf c (openingAt container c) 0x20 0 ≡ chunk
+  found-skipped t = made-skipped container (reading .payloads) c chunk (rw t at opened)
+
+-- ---- why a chunk is refused
+
+-- by 1, 9, or in the second mode 17, and at its start
+abbrev pub RefusedThere : PayloadMode → ℕ → Refusal → Type 0
+RefusedThere mode c refusal =
+    (refusal .place ≡ c) × ((refusal .cause ≡ RanOut) ⊎ ((refusal .cause ≡ TooSmall) ⊎ ((refusal .cause ≡ ShortHeader) × (mode ≡ AfterHeader))))
+
+module _ (mode : PayloadMode) (c : ℕ) (refusal : Refusal) where
+  ran-out : refusedAt c RanOut ≡ Refused refusal → RefusedThere mode c refusal
+  ran-out e = (cc, inl cc)
+
+  too-small : refusedAt c TooSmall ≡ Refused refusal → RefusedThere mode c refusal
+  too-small e = (cc, inr (inl cc))
+
+  short-header : refusedAt c ShortHeader ≡ Refused refusal → mode ≡ AfterHeader → RefusedThere mode c refusal
+  short-header e m = (cc, inr (inr (cc, m)))
+
+  found-not : (chunk : Chunk) → Found chunk ≡ Refused refusal → RefusedThere mode c refusal
+  found-not chunk e = let z : _≡_ {A = ℕ} 0 1 = cc in absurd (omega arith)
+
+  over-not : Over ≡ Refused refusal → RefusedThere mode c refusal
+  over-not e = let z : _≡_ {A = ℕ} 0 1 = cc in absurd (omega arith)
+
+  by-held : (t u : Bool) (chunk : Chunk) → cond t (refusedAt c TooSmall) (cond u (refusedAt c RanOut) (Found chunk)) ≡ Refused refusal → RefusedThere mode c refusal
+  by-held true u chunk e = too-small e
+  by-held false true chunk e = ran-out e
+  by-held false false chunk e = found-not chunk e
+
+by-mode : (mode : PayloadMode) (c : ℕ) (refusal : Refusal) (opening : Opening) (next : ChunkStep) → (next ≡ Refused refusal → RefusedThere mode c refusal)
+    → cond (isShort mode opening) (refusedAt c ShortHeader) next ≡ Refused refusal → RefusedThere mode c refusal
+by-mode Original c refusal opening next rest e = rest e
+by-mode AfterHeader c refusal opening next rest e = by-test (ltb (opening .header) 0x18) e
+  where
+    by-test : (t : Bool) → cond t (refusedAt c ShortHeader) next ≡ Refused refusal → RefusedThere AfterHeader c refusal
+    by-test true e = short-header AfterHeader c refusal e refl
+    by-test false e = rest e
+
+by-taken : (mode : PayloadMode) (c : ℕ) (refusal : Refusal) (t : Bool) (next : ChunkStep) (chunk : Chunk) → (next ≡ Refused refusal → RefusedThere mode c refusal)
+    → cond t next (Found chunk) ≡ Refused refusal → RefusedThere mode c refusal
+by-taken mode c refusal true next chunk rest e = rest e
+by-taken mode c refusal false next chunk rest e = found-not mode c refusal chunk e
+
+by-left : (mode : PayloadMode) (c : ℕ) (refusal : Refusal) (s t : Bool) (next : ChunkStep) → (next ≡ Refused refusal → RefusedThere mode c refusal)
+    → cond s Over (cond t (refusedAt c RanOut) next) ≡ Refused refusal → RefusedThere mode c refusal
+by-left mode c refusal true t next rest e = over-not mode c refusal e
+by-left mode c refusal false true next rest e = ran-out mode c refusal e
+by-left mode c refusal false false next rest e = rest e
+
+pub refused-there : (container : List ℕ) (reading : Applied) (c : ℕ) (refusal : Refusal) → chunkAt container reading c ≡ Refused refusal → RefusedThere (reading .payloads) c refusal
+unfolding chunkAt openedAt takenAt heldAt
+refused-there container reading c refusal e =
+    let mode = reading .payloads in
+    let opening = openingAt container c in
+    let spare = opening .header + opening .footer in
+    let offset = offsetOf mode opening in
+    let n = opening .block - spare in
+    by-left mode c refusal (ltb (length container - c) 4) (ltb (length container - c) 45) _
+    (by-taken mode c refusal (isTaken reading (opening .kind) (opening .channel)) _ (chunkOf c opening 0x20 0)
+    (by-mode mode c refusal opening _
+    (by-held mode c refusal (ltb (opening .block) spare) (ltb (length container) (c + offset + n)) (chunkOf c opening offset n)))) e
 
 -- ---- where the chunks are over in one reading, they are in every other
 

@@ -7,7 +7,9 @@ use mathlib.Core.Logic.{inl, inr, ⊎-elim}
 use native.Mathlib.Omega.{arith}
 use lib.ListN.{length, take, drop, length-take, length-drop}
 use borrow.Author.Tests.{le-leb}
+use denote.Ref.{RefT, now}
 use Rattle.laws.proofs.Side.{side}
+use Rattle.part.specs.Parts.{partStart}
 use Rattle.reading.specs.declared.AudioChoice.{AudioChoice}
 use Rattle.reading.specs.declared.PayloadMode.{PayloadMode}
 use Rattle.reading.specs.declared.PayloadMode.the-variants.{Original, AfterHeader}
@@ -17,9 +19,11 @@ use Rattle.chunk.specs.declared.Kind.{Kind}
 use Rattle.chunk.specs.declared.Kind.the-variants.{Video, Audio, Other, End}
 use Rattle.chunk.specs.declared.Opening.{Opening}
 use Rattle.chunk.specs.Openings.{openingAt}
-use Rattle.chunk.specs.Chunks.{isTaken, heldAt, takenAt, openedAt, chunkAt}
+use Rattle.chunk.specs.declared.Chunk.{Chunk}
+use Rattle.chunk.specs.Chunks.{isTaken, offsetOf, chunkOf, heldAt, takenAt, openedAt, chunkAt, PayloadOf}
 use Rattle.chunk.specs.Promises as promised
-use Rattle.chunk.proofs.FoundLaws.{found}
+use Rattle.chunk.specs.Promises.{startingAt}
+use Rattle.chunk.proofs.FoundLaws.{found, found-taken, found-skipped, refused-there}
 use Rattle.chunk.proofs.WindowLaws.{few-left, short, opening-there}
 
 pub PayloadsLieWithin : promised.PayloadsLieWithin
@@ -27,6 +31,29 @@ PayloadsLieWithin container reading c chunk e =
     let w = found container reading c chunk e in
     let h : chunk .payload + chunk .len ≤ length container = w .inside in
     (h, rw (le-leb _ _ h) (simp (length-take, length-drop) (omega arith)))
+
+-- ---- where a payload stands
+
+pub PayloadsStandWhere : promised.PayloadsStandWhere
+unfolding chunkOf
+PayloadsStandWhere container reading c chunk e = (
+  λ t.
+      let f = found-taken container reading c chunk e t in
+      (sym (ap (λ (k : Chunk). k .payload) (f .0)), omega (arith, ap (λ (k : Chunk). k .len) (f .0), f .1)),
+  λ t. sym (ap (λ (k : Chunk). k .len) (found-skipped container reading c chunk e t)),
+)
+
+pub ReadFromThere : promised.ReadFromThere
+ReadFromThere container r reading c chunk p e t =
+    let start = PayloadsStandWhere (now container) reading c chunk e .0 t .0 in
+    let inside = PayloadsLieWithin (now container) reading c chunk e .0 in
+    let part : PayloadOf container chunk r = rw e at p in
+    let here : partStart (now container) (chunk .payload) (chunk .len) ≡ c + offsetOf (reading .payloads) (openingAt (now container) c) =
+    rw (le-leb (chunk .payload + chunk .len) (length (now container)) inside) start in
+    (part .0, part .1 ∙ ap (λ (n : ℕ). n + container .ptr .1) here, part .2)
+
+pub RefusedByThree : promised.RefusedByThree
+RefusedByThree container reading c refusal e = refused-there container reading c refusal e
 
 pub NextLiesAfter : promised.NextLiesAfter
 NextLiesAfter container reading c chunk e = let w = found container reading c chunk e in (w .start, omega arith)
@@ -59,6 +86,25 @@ module _ (container : List ℕ) (reading other : Applied) (c : ℕ) (same : read
 pub ModesAgree : promised.ModesAgree
 unfolding chunkAt
 ModesAgree container reading other c same h = rw (same-opened container reading other c same (openingAt container c) h)
+
+module _ (container : List ℕ) (reading other : Applied) (c : ℕ) (chunk chunk′ : Chunk) where
+  abbrev here : Opening
+  here = openingAt container c
+
+  differ-taken : (offset offset′ n : ℕ) → chunkOf c here offset n ≡ chunk → chunkOf c here offset′ n ≡ chunk′ → chunk′ ≡ startingAt (chunk′ .payload) chunk
+  unfolding chunkOf
+  differ-taken offset offset′ n e f = rw (← e, ← f)
+
+pub ModesDifferInTheStart : promised.ModesDifferInTheStart
+ModesDifferInTheStart container reading other c chunk chunk′ same e f = by-taken (isTaken reading (openingAt container c .kind) (openingAt container c .channel)) refl
+  where
+    by-taken : (t : Bool) → isTaken reading (openingAt container c .kind) (openingAt container c .channel) ≡ t → chunk′ ≡ startingAt (chunk′ .payload) chunk
+    by-taken true t =
+        differ-taken container reading other c chunk chunk′ _ _ _ (found-taken container reading c chunk e t .0)
+        (found-taken container other c chunk′ f (sym (both-take container reading other c same (openingAt container c .kind) (openingAt container c .channel)) ∙ t) .0)
+    by-taken false t =
+        differ-taken container reading other c chunk chunk′ _ _ _ (found-skipped container reading c chunk e t)
+        (found-skipped container other c chunk′ f (sym (both-take container reading other c same (openingAt container c .kind) (openingAt container c .channel)) ∙ t))
 
 -- ---- piece by piece
 

@@ -1,4 +1,4 @@
--- The streams of a film of which one channel is taken, by the pieces of its chunks; and that the pieces of all channels are as long as those of all chunks.
+-- The streams of a film of which one channel is taken, or no audio, by the pieces of its chunks; and that the pieces of all channels are as long as those of all chunks.
 -- Assumes nothing.
 use Prim.Native.Nat.{ℕ, zero, suc, _+_, _≤_, _<_}
 use mathlib.Core.Path.{_≡_, refl, sym, ap, ap₂, _∙_}
@@ -17,9 +17,9 @@ use Rattle.chunk.specs.declared.Kind.the-variants.{Video, Audio, Other, End}
 use Rattle.chunk.specs.declared.Chunk.{Chunk}
 use Rattle.chunk.specs.Openings.{Bytes}
 use Rattle.chunk.specs.Chunks.{payloadOf}
-use Rattle.chunk.specs.Channels.{isOn, isBeside, skipped, only}
+use Rattle.chunk.specs.Channels.{isOn, isLeft, skipped, keeping, only, silenced}
 use Rattle.chunk.proofs.FoundLaws.{found}
-use Rattle.walk.specs.Walks.{walkFrom, joined}
+use Rattle.walk.specs.Walks.{walkFrom, joined, videoIn, audioIn, sizeOf, videoSize, audioSize}
 use Rattle.walk.proofs.WalkLaws.{every-walk}
 use Rattle.unmasking.specs.declared.Unmasking.{Unmasking}
 use Rattle.unmasking.specs.Unmasking.{clearAudio}
@@ -49,8 +49,8 @@ module _ (container : List ℕ) (by : Unmasking) where
   silent-skipped : (chunk : Chunk) → chunk .kind ≡ Audio → audioPiece container by (skipped chunk) ≡ []
   silent-skipped chunk k = silent (skipped chunk) Audio k (no-bytes (leb (chunk .start + 0x20 + 0) (length container)) (drop (chunk .start + 0x20) container))
 
-  module _ (channel : ℕ) where
-    same-video : (chunk : Chunk) (kind : Kind) → chunk .kind ≡ kind → (t : Bool) → isBeside channel kind (chunk .channel) ≡ t
+  module _ (kept : ℕ → Bool) where
+    same-video : (chunk : Chunk) (kind : Kind) → chunk .kind ≡ kind → (t : Bool) → isLeft kept kind (chunk .channel) ≡ t
         → videoPiece container by (cond t (skipped chunk) chunk) ≡ videoPiece container by chunk
     same-video chunk kind k false e = refl
     same-video chunk Video k true e = let z : _≡_ {A = ℕ} 0 1 = cc in absurd (omega arith)
@@ -58,15 +58,28 @@ module _ (container : List ℕ) (by : Unmasking) where
     same-video chunk Other k true e = let z : _≡_ {A = ℕ} 0 1 = cc in absurd (omega arith)
     same-video chunk End k true e = let z : _≡_ {A = ℕ} 0 1 = cc in absurd (omega arith)
 
-    pub video-stays : (chunks : List Chunk) → videoStream container by (map (only channel) chunks) ≡ videoStream container by chunks
-    unfolding joined only
+    pub video-stays : (chunks : List Chunk) → videoStream container by (map (keeping kept) chunks) ≡ videoStream container by chunks
+    unfolding joined keeping
     video-stays [] = refl
     video-stays (chunk ∷ chunks) =
-        ap₂ (λ (a b : List ℕ). a ++ b) (same-video chunk (chunk .kind) refl (isBeside channel (chunk .kind) (chunk .channel)) refl) (video-stays chunks)
+        ap₂ (λ (a b : List ℕ). a ++ b) (same-video chunk (chunk .kind) refl (isLeft kept (chunk .kind) (chunk .channel)) refl) (video-stays chunks)
 
+  -- no audio is kept
+  quiet-piece : (chunk : Chunk) (kind : Kind) → chunk .kind ≡ kind → audioPiece container by (cond (isLeft (λ n. false) kind (chunk .channel)) (skipped chunk) chunk) ≡ []
+  quiet-piece chunk Video k = silent chunk Video k refl
+  quiet-piece chunk Audio k = silent-skipped chunk k
+  quiet-piece chunk Other k = silent chunk Other k refl
+  quiet-piece chunk End k = silent chunk End k refl
+
+  pub no-audio : (chunks : List Chunk) → audioStream container by (map silenced chunks) ≡ []
+  unfolding joined keeping
+  no-audio [] = refl
+  no-audio (chunk ∷ chunks) = ap₂ (λ (a b : List ℕ). a ++ b) (quiet-piece chunk (chunk .kind) refl) (no-audio chunks)
+
+  module _ (channel : ℕ) where
     -- a chunk's piece with one channel, before what the others give: it is there where the chunk is of that channel
     one-piece : (chunk : Chunk) (chunks : List Chunk) (kind : Kind) → chunk .kind ≡ kind → (t : Bool) → eqb (chunk .channel) channel ≡ t
-        → audioPiece container by (cond (isBeside channel kind (chunk .channel)) (skipped chunk) chunk) ++ audioStream container by chunks
+        → audioPiece container by (cond (isLeft (λ n. eqb n channel) kind (chunk .channel)) (skipped chunk) chunk) ++ audioStream container by chunks
         ≡ audioStream container by (cond (isOn channel kind (chunk .channel)) (chunk ∷ chunks) chunks)
     unfolding joined
     one-piece chunk chunks Video k t e = rw (silent chunk Video k refl)
@@ -76,11 +89,40 @@ module _ (container : List ℕ) (by : Unmasking) where
     one-piece chunk chunks End k t e = rw (silent chunk End k refl)
 
     pub audio-is-its-pieces : (chunks : List Chunk) → audioStream container by (map (only channel) chunks) ≡ audioStream container by (onChannel channel chunks)
-    unfolding joined only onChannel
+    unfolding joined keeping onChannel
     audio-is-its-pieces [] = refl
     audio-is-its-pieces (chunk ∷ chunks) =
         ap (λ (rest : List ℕ). audioPiece container by (only channel chunk) ++ rest) (audio-is-its-pieces chunks)
         ∙ one-piece chunk (onChannel channel chunks) (chunk .kind) refl (eqb (chunk .channel) channel) refl
+
+-- ---- the sizes where no audio is kept
+
+module _ (kept : ℕ → Bool) where
+  same-share : (chunk : Chunk) (kind : Kind) → chunk .kind ≡ kind → (t : Bool) → isLeft kept kind (chunk .channel) ≡ t
+      → videoIn (cond t (skipped chunk) chunk .kind) (cond t (skipped chunk) chunk .len) ≡ videoIn (chunk .kind) (chunk .len)
+  same-share chunk kind k false e = refl
+  same-share chunk Video k true e = let z : _≡_ {A = ℕ} 0 1 = cc in absurd (omega arith)
+  same-share chunk Audio k true e = rw k
+  same-share chunk Other k true e = let z : _≡_ {A = ℕ} 0 1 = cc in absurd (omega arith)
+  same-share chunk End k true e = let z : _≡_ {A = ℕ} 0 1 = cc in absurd (omega arith)
+
+  pub video-size-stays : (chunks : List Chunk) → videoSize (map (keeping kept) chunks) ≡ videoSize chunks
+  unfolding sizeOf keeping
+  video-size-stays [] = refl
+  video-size-stays (chunk ∷ chunks) =
+      ap₂ (λ (a b : ℕ). a + b) (same-share chunk (chunk .kind) refl (isLeft kept (chunk .kind) (chunk .channel)) refl) (video-size-stays chunks)
+
+no-share : (chunk : Chunk) (kind : Kind) → chunk .kind ≡ kind
+    → audioIn (cond (isLeft (λ n. false) kind (chunk .channel)) (skipped chunk) chunk .kind) (cond (isLeft (λ n. false) kind (chunk .channel)) (skipped chunk) chunk .len) ≡ 0
+no-share chunk Video k = rw k
+no-share chunk Audio k = rw k
+no-share chunk Other k = rw k
+no-share chunk End k = rw k
+
+pub no-audio-size : (chunks : List Chunk) → audioSize (map silenced chunks) ≡ 0
+unfolding sizeOf keeping
+no-audio-size [] = refl
+no-audio-size (chunk ∷ chunks) = ap₂ (λ (a b : ℕ). a + b) (no-share chunk (chunk .kind) refl) (no-audio-size chunks)
 
 -- ---- the pieces of all channels
 

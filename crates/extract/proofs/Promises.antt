@@ -2,16 +2,17 @@
 -- its tables, one payload at a time. Assumes nothing.
 use Prim.Native.Nat.{ℕ, _%_, _<_}
 use mathlib.Core.Path.{_≡_, refl, sym, ap, ap₂, _∙_}
-use mathlib.Core.List.{List}
-use mathlib.Core.Bool.{Bool, true, false, cond, _&&_}
+use mathlib.Core.List.{List, map}
+use mathlib.Core.Bool.{Bool, true, false, cond, _&&_, _||_}
 use native.Mathlib.Omega.{arith}
 use lib.ListN.{length}
+use lib.Seq.{sets}
 use lib.Bits.{bitXor, xor-self}
-use lib.Dec.{leb, eqb}
+use lib.Dec.{leb, ltb, eqb}
 use borrow.Author.Tests.{leb-true, leb-false, le-ltb}
 use Rattle.laws.specs.Lists.{at}
 use Rattle.laws.proofs.OneAnswer.{no-second-answer}
-use Rattle.reading.specs.declared.AudioChoice.the-variants.{Chosen}
+use Rattle.reading.specs.declared.AudioChoice.the-variants.{NotChosen, Chosen}
 use Rattle.codec.specs.declared.Codec.{Codec}
 use Rattle.key.specs.KeyTable.{keysOf}
 use Rattle.key.specs.CountingBits.{AgreeWhereItCounts}
@@ -21,23 +22,27 @@ use Rattle.mask.specs.Audio.{maskedAudio}
 use Rattle.mask.specs.Positions.{difference, videoDiffers, audioDiffers}
 use Rattle.mask.specs.Promises.{apart}
 use Rattle.mask.proofs.Promises.{ShortVideoStays, VideoDiffersByD, AudioDiffersByD}
+use Rattle.refusal.specs.declared.Cause.the-variants.{ShortOutput}
 use Rattle.chunk.specs.Chunks.{payloadOf}
-use Rattle.walk.specs.Walks.{walkFrom}
+use Rattle.chunk.specs.Channels.{silenced}
+use Rattle.extract.specs.declared.Contents.{Contents}
+use Rattle.extract.specs.declared.Extracted.{Extracted}
+use Rattle.walk.specs.Walks.{walkFrom, videoSize, audioSize}
 use Rattle.unmasking.specs.declared.Key.the-variants.{Given}
 use Rattle.unmasking.specs.declared.Unmasking.{Unmasking}
 use Rattle.unmasking.specs.Unmasking.{isAdx, unmaskingOf}
 use Rattle.film.specs.Films.{Film, film, refused, filmOf, surveyOf}
 use Rattle.film.specs.Promises.{withAudio}
 use Rattle.film.proofs.FilmLaws.{surveyed-film}
-use Rattle.film.proofs.Promises.{OneChannelOfAFilm}
+use Rattle.film.proofs.Promises.{OneChannelOfAFilm, NoAudioOfAFilm}
 use Rattle.extract.specs.declared.Extracted.the-variants as extracted
 use Rattle.extract.specs.Streams.{videoPart, audioPart, videoStream, audioStream, onChannel}
-use Rattle.extract.specs.Extraction.{extractedIn, videoOf, audioOf}
+use Rattle.extract.specs.Extraction.{contentsOf, extractedIn, leftBy, videoOf, audioOf}
 use Rattle.extract.specs.Promises as promised
-use Rattle.extract.specs.Promises.{SameFrom}
+use Rattle.extract.specs.Promises.{SameFrom, withoutAudio}
 use Rattle.extract.proofs.StreamLaws.{videoUnder, audioUnder, stream-length}
-use Rattle.extract.proofs.ChannelLaws.{video-stays, audio-is-its-pieces, sum-as, all-channelled, channels-sum}
-use Rattle.extract.proofs.AnswerLaws.{its-film, its-sizes, sizes-within}
+use Rattle.extract.proofs.ChannelLaws.{video-stays, audio-is-its-pieces, no-audio, video-size-stays, no-audio-size, sum-as, all-channelled, channels-sum}
+use Rattle.extract.proofs.AnswerLaws.{both-long, passed, its-film, its-sizes, sizes-within}
 use Rattle.extract.proofs.ResultLaws.{stays-past, both-hold, video-at, audio-at}
 
 pub NoKeyChangesTheAnswer : promised.NoKeyChangesTheAnswer
@@ -138,7 +143,7 @@ pub OneChannelIsItsPieces : promised.OneChannelIsItsPieces
 OneChannelIsItsPieces container reading key channel header applied chunks e =
     let by = unmaskingOf key (header .«audio_codec») in
     let one = OneChannelOfAFilm container reading channel header applied chunks e in
-    (ap (videoOf container key) one ∙ video-stays container by channel chunks, ap (audioOf container key) one ∙ audio-is-its-pieces container by channel chunks)
+    (ap (videoOf container key) one ∙ video-stays container by (λ n. eqb n channel) chunks, ap (audioOf container key) one ∙ audio-is-its-pieces container by channel chunks)
 
 pub ChannelSizesSumToAll : promised.ChannelSizesSumToAll
 ChannelSizesSumToAll container reading key header applied chunks bytes e =
@@ -148,3 +153,31 @@ ChannelSizesSumToAll container reading key header applied chunks bytes e =
     let all : walkFrom container applied (header .start) .chunks ≡ chunks = cc in
     sum-as _ (λ channel. length (audioStream container by (onChannel channel chunks))) (λ channel. ap length (OneChannelIsItsPieces container reading key channel header applied chunks e .1)) 256
     ∙ channels-sum container by chunks (rw all at (all-channelled container applied bytes (header .start))) ∙ sym (ap (λ (f : Film). length (audioOf container key f)) e)
+
+-- ---- no audio
+
+pub NoAudioIsTheVideo : promised.NoAudioIsTheVideo
+NoAudioIsTheVideo container reading choice key video audio videoAfter audioAfter contents audio′ videoAfter′ audioAfter′ r e e′ = by-film (filmOf container (withAudio choice reading)) refl
+  where
+    by-film : (f : Film) → filmOf container (withAudio choice reading) ≡ f → (r ≡ extracted.Film (withoutAudio contents)) × (videoAfter′ ≡ videoAfter) × (audioAfter′ ≡ audio′)
+    by-film (film header applied chunks) f =
+        let by = unmaskingOf key (header .«audio_codec») in
+        let seen = videoSize chunks in
+        let heard = audioSize chunks in
+        let none = NoAudioOfAFilm container reading choice header applied chunks f in
+        let p = passed (ltb (length video) seen || ltb (length audio) heard) (record { cause = ShortOutput seen heard; place = 0 }) (contentsOf header seen heard) contents (rw f at (e .0)) in
+        let long = both-long (length video) seen (length audio) heard (p .0) in
+        let size : seen ≡ contents .«video_size» = ap (λ (held : Contents). held .«video_size») (p .1) in
+        let answer : r ≡ extracted.Film (contentsOf header seen 0) =
+        e′ .0 ∙ ap (λ (g : Film). extractedIn (length video) (length audio′) (surveyOf g)) none
+        ∙ rw (video-size-stays (λ n. false) chunks, no-audio-size chunks, le-ltb (length video) seen (long .0), le-ltb (length audio′) 0 (omega arith)) in
+        let same : contentsOf header seen 0 ≡ withoutAudio contents = ap withoutAudio (p .1) in (
+          answer ∙ ap extracted.Film same,
+          e′ .1 ∙ ap₂ (λ (a : Extracted) (g : Film). leftBy a video (videoOf container key g)) answer none ∙ ap (sets video 0) (video-stays container by (λ n. false) chunks)
+              ∙ sym (rw f at (e .1)),
+          e′ .2 ∙ ap₂ (λ (a : Extracted) (g : Film). leftBy a audio′ (audioOf container key g)) answer none ∙ ap (sets audio′ 0) (no-audio container by chunks),
+        )
+    by-film (refused refusal) f =
+        let q : extracted.Film contents ≡ extracted.Refused refusal = rw f at (e .0) in
+        let z : _≡_ {A = ℕ} 0 1 = cc in
+        absurd (omega arith)

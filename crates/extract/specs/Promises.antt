@@ -5,7 +5,8 @@ use mathlib.Core.List.{List, _∷_, _++_}
 use mathlib.Core.Bool.{cond, _&&_}
 use lib.ListN.{length, drop}
 use lib.Dec.{leb, eqb}
-use Rattle.reading.specs.declared.AudioChoice.the-variants.{Chosen, Channel}
+use Rattle.reading.specs.declared.AudioChoice.{AudioChoice}
+use Rattle.reading.specs.declared.AudioChoice.the-variants.{NotChosen, Chosen, Channel}
 use Rattle.reading.specs.declared.Reading.{Reading}
 use Rattle.reading.specs.declared.Applied.{Applied}
 use Rattle.refusal.specs.declared.Refusal.{Refusal}
@@ -117,6 +118,21 @@ OneChannelIsItsPieces =
     → filmOf container (withAudio Chosen reading) ≡ film header applied chunks
     → (videoOf container key (filmOf container (withAudio (Channel channel) reading)) ≡ videoStream container (unmaskingOf key (header .«audio_codec»)) chunks)
     × (audioOf container key (filmOf container (withAudio (Channel channel) reading)) ≡ audioStream container (unmaskingOf key (header .«audio_codec»)) (onChannel channel chunks))
+
+-- what a film holds, but for its audio's size, which is 0
+abbrev pub withoutAudio : Contents → Contents
+withoutAudio contents =
+    record { name = contents .name; audio = contents .audio; «mpeg_codec» = contents .«mpeg_codec»; «audio_codec» = contents .«audio_codec»; «video_kind» = contents .«video_kind»; «audio_kind» = contents .«audio_kind»; «video_size» = contents .«video_size»; «audio_size» = 0 }
+
+-- and "none": what is extracted with some choice of audio is extracted with none too, into any audio output: the answer is the same but for the audio's size, the video output is
+-- the same, and the audio output stays
+abbrev pub NoAudioIsTheVideo : Type 0
+NoAudioIsTheVideo =
+    (container : List ℕ) (reading : Reading) (choice : AudioChoice) (key : Key) (video audio videoAfter audioAfter : List ℕ) (contents : Contents)
+    (audio′ videoAfter′ audioAfter′ : List ℕ) (r : Extracted)
+    → Extraction container (withAudio choice reading) key video audio (extracted.Film contents) videoAfter audioAfter
+    → Extraction container (withAudio NotChosen reading) key video audio′ r videoAfter′ audioAfter′
+    → (r ≡ extracted.Film (withoutAudio contents)) × (videoAfter′ ≡ videoAfter) × (audioAfter′ ≡ audio′)
 
 -- f 0 + f 1 + .. + f (n - 1)
 unfoldable pub sumTo : (ℕ → ℕ) → ℕ → ℕ

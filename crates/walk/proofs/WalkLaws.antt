@@ -15,6 +15,7 @@ use Rattle.chunk.specs.declared.ChunkStep.the-variants.{Over, Found, Refused}
 use Rattle.chunk.specs.Chunks.{chunkAt}
 use Rattle.chunk.proofs.CaseLaws.{over}
 use Rattle.chunk.proofs.FoundLaws.{found}
+use Rattle.chunk.proofs.Promises.{RefusedByThree}
 use Rattle.walk.specs.Walks.{clean, stopped, onto, goOn, walkFor, walkFrom, videoIn, audioIn, sizeOf, videoSize, audioSize}
 
 -- each chunk leaves fewer bytes
@@ -132,3 +133,30 @@ module _ (container : List ℕ) (reading : Applied) where
 
   pub stands-at-its-start : (c : ℕ) (before after : List Chunk) (chunk : Chunk) → walkFrom container reading c .chunks ≡ before ++ chunk ∷ after → chunkAt container reading (chunk .start) ≡ Found chunk
   stands-at-its-start = every-walk container reading Stand none-stands one-more-stands
+
+-- ---- what stops a walk
+
+module _ (container : List ℕ) (reading : Applied) (refusal : Refusal) where
+  abbrev Stops : Type 0
+  Stops = chunkAt container reading (refusal .place) ≡ Refused refusal
+
+  stops-here : (c : ℕ) (other : Refusal) → chunkAt container reading c ≡ Refused other → stopped other ≡ stopped refusal → Stops
+  stops-here c other e s =
+      let same : other ≡ refusal = cc in
+      let place : refusal .place ≡ c = ap (λ (r : Refusal). r .place) (sym same) ∙ RefusedByThree container reading c other e .0 in
+      ap (chunkAt container reading) place ∙ e ∙ ap Refused same
+
+  by-stop : (n c : ℕ) → ((d : ℕ) → walkFor container reading n d .ending ≡ stopped refusal → Stops) → (step : ChunkStep) → chunkAt container reading c ≡ step
+      → goOn step (walkFor container reading n) .ending ≡ stopped refusal → Stops
+  by-stop n c ih Over e s = let z : _≡_ {A = ℕ} 0 1 = cc in absurd (omega arith)
+  by-stop n c ih (Found chunk) e s = ih (chunk .next) s
+  by-stop n c ih (Refused other) e s = stops-here c other e s
+
+  stops-in : (n c : ℕ) → walkFor container reading n c .ending ≡ stopped refusal → Stops
+  unfolding walkFor
+  stops-in zero c s = let z : _≡_ {A = ℕ} 0 1 = cc in absurd (omega arith)
+  stops-in (suc n) c s = by-stop n c (stops-in n) (chunkAt container reading c) refl s
+
+  pub stops-at : (c : ℕ) → walkFrom container reading c .ending ≡ stopped refusal → Stops
+  unfolding walkFrom
+  stops-at c s = stops-in (length container - c) c s

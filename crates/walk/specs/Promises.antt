@@ -6,15 +6,23 @@ use mathlib.Core.List.{List, [], _∷_}
 use mathlib.Core.Bool.{true}
 use lib.ListN.{length}
 use Rattle.word.specs.Numbers.{be16}
+use Rattle.refusal.specs.declared.Refusal.{Refusal}
 use Rattle.reading.specs.declared.Applied.{Applied}
 use Rattle.chunk.specs.declared.Chunk.{Chunk}
+use Rattle.chunk.specs.declared.ChunkStep.the-variants.{Refused}
 use Rattle.chunk.specs.Chunks.{isTaken, chunkAt}
-use Rattle.walk.specs.Walks.{clean, goOn, walkFrom, videoSize, audioSize}
+use Rattle.walk.specs.Walks.{clean, stopped, goOn, walkFrom, videoSize, audioSize}
 
 -- A walk is the chunk rule, step by step: the number of chunks that its definition allows cuts none short.
 abbrev pub WalkGoesByChunks : Type 0
 WalkGoesByChunks =
     (container : List ℕ) (reading : Applied) (c : ℕ) → walkFrom container reading c ≡ goOn (chunkAt container reading c) (walkFrom container reading)
+
+-- A walk that is refused is refused by the chunk at the refusal's place: by 1, by 9, or in the second payload mode by 17 (`RefusedByThree` of `chunk`).
+abbrev pub RefusedByAChunk : Type 0
+RefusedByAChunk =
+    (container : List ℕ) (reading : Applied) (c : ℕ) (refusal : Refusal) → walkFrom container reading c .ending ≡ stopped refusal
+    → chunkAt container reading (refusal .place) ≡ Refused refusal
 
 -- Both stream sizes together never exceed the bytes that are left where the walk starts, in both payload modes and for every audio choice.
 abbrev pub SizesFitWhatIsLeft : Type 0
