@@ -1,5 +1,8 @@
 -- The promises of specs/Promises.antt, each under its name: what the search over rising places finds, and what it does not. Assumes nothing.
-use Prim.Native.Nat.{ℕ, _+_, _-_, _<_}
+use Prim.Native.Nat.{ℕ, _+_, _-_, _≤_, _<_}
+use mathlib.Core.Logic.{_⊎_, inl, inr, ⊎-elim}
+use denote.Ref.{RefT, now}
+use borrow.Author.Tests.{le-leb}
 use mathlib.Core.Path.{_≡_, refl, sym, ap, _∙_}
 use mathlib.Core.List.{List, _∷_, _++_}
 use mathlib.Core.Bool.{Bool, true, false}
@@ -7,9 +10,13 @@ use native.Mathlib.Omega.{arith}
 use lib.ListN.{length, take}
 use lib.Seq.{take-length}
 use Rattle.refusal.specs.declared.Refusal.{Refusal}
-use Rattle.refusal.specs.declared.Cause.the-variants.{NoBeginning}
+use Rattle.refusal.specs.declared.Cause.the-variants.{RanOut, TooSmall, ShortHeader, NoBeginning}
 use Rattle.refusal.specs.Numbers.{numberOf}
+use Rattle.reading.specs.declared.PayloadMode.the-variants.{Original, AfterHeader}
 use Rattle.reading.specs.Choices.{appliedTo}
+use Rattle.part.specs.Parts.{partAt}
+use Rattle.chunk.proofs.Promises.{RefusedByThree}
+use Rattle.walk.proofs.Promises.{RefusedByAChunk}
 use Rattle.chunk.specs.declared.Chunk.{Chunk}
 use Rattle.walk.specs.Walks.{Ending, clean, stopped}
 use Rattle.header.specs.declared.Header.{Header}
@@ -19,10 +26,10 @@ use Rattle.header.specs.Headers.{headerOf}
 use Rattle.film.specs.Films as films
 use Rattle.film.proofs.FilmLaws.{with-header}
 use Rattle.salvage.specs.declared.Salvaged.the-variants.{Kept, Refused}
-use Rattle.salvage.specs.Salvage.{how, isFilm, accepted, Cut, upTo, nowhere, lastOf, startsOf, cutAs, endedAs, walkOf, afterHeader, salvageFrom, salvageOf}
+use Rattle.salvage.specs.Salvage.{how, isFilm, accepted, Cut, upTo, nowhere, lastOf, startsOf, cutAs, endedAs, walkOf, afterHeader, salvageFrom, salvageOf, keptIn}
 use Rattle.salvage.specs.Promises as promised
 use Rattle.salvage.specs.Promises.{cutsOf}
-use Rattle.salvage.proofs.SearchLaws.{Rising, each-within, found-good, AtLeast, passing-found}
+use Rattle.salvage.proofs.SearchLaws.{Rising, each-within, found-good, found-among, AtLeast, passing-found}
 use Rattle.salvage.proofs.StepLaws.{steps-of, starts-rise}
 use Rattle.salvage.proofs.CutLaws.{isClean}
 use Rattle.salvage.proofs.SalvageLaws.{accepted-as-walked}
@@ -98,6 +105,47 @@ pub KeptAndDropped : promised.KeptAndDropped
 KeptAndDropped container kept dropped cause e =
     let a = answered container kept dropped cause e in
     sums container (a .header) kept dropped cause (a .from)
+
+ends-at : (container : List ℕ) (header : Header) → headerOf container how ≡ answer.Read header → (kept dropped cause : ℕ) → From container header kept dropped cause
+    → (kept ≡ length container)
+    ⊎ ((h : Header) × ((headerOf container how ≡ answer.Read h) × ((before : List ℕ) × ((after : List ℕ) × (cutsOf container h ≡ before ++ kept ∷ after)))))
+ends-at container header read kept dropped cause (whole f) = inl refl
+ends-at container header read kept dropped cause (cut refusal p f e) = inr (header, (read, found-among (tried container) (cutsOf container header) p e))
+
+pub KeptEndsAtAChunk : promised.KeptEndsAtAChunk
+KeptEndsAtAChunk container kept dropped cause e =
+    let a = answered container kept dropped cause e in
+    ends-at container (a .header) (a .read) kept dropped cause (a .from)
+
+pub BeginningIsAccepted : promised.BeginningIsAccepted
+BeginningIsAccepted container r kept dropped cause b e =
+    let within : kept ≤ length (now container) = omega (arith, KeptAndDropped (now container) kept dropped cause e) in
+    let is : keptIn (salvageOf (now container)) ≡ kept = ap keptIn e in
+    let bytes : now r ≡ take kept (now container) = b .2 ∙ ap (partAt (now container) 0) is ∙ rw (le-leb (0 + kept) (length (now container)) (omega arith)) in
+    (bytes, ap accepted bytes ∙ KeptIsAccepted (now container) kept dropped cause e)
+
+-- ---- why it was cut
+
+-- in the original's mode a chunk is refused by 1 or by 9
+one-or-nine : (container : List ℕ) (header : Header) (refusal : Refusal) → walkOf container header .ending ≡ stopped refusal
+    → (numberOf (refusal .cause) ≡ 1) ⊎ (numberOf (refusal .cause) ≡ 9)
+one-or-nine container header refusal f =
+    let applied = appliedTo (header .audio) how in
+    let by = RefusedByThree container applied (refusal .place) refusal (RefusedByAChunk container applied (header .start) refusal f) .1 in
+    ⊎-elim (λ (q : refusal .cause ≡ RanOut). inl (ap numberOf q))
+    (λ (s : (refusal .cause ≡ TooSmall) ⊎ ((refusal .cause ≡ ShortHeader) × (Original ≡ AfterHeader))).
+    ⊎-elim (λ (q : refusal .cause ≡ TooSmall). inr (ap numberOf q))
+    (λ (q : (refusal .cause ≡ ShortHeader) × (Original ≡ AfterHeader)). let m = q .1 in let z : _≡_ {A = ℕ} 0 1 = cc in absurd (omega arith)) s) by
+
+why-cut : (container : List ℕ) (header : Header) (kept dropped cause : ℕ) → From container header kept dropped cause
+    → ((kept ≡ length container) × (dropped ≡ 0) × (cause ≡ 0)) ⊎ ((cause ≡ 1) ⊎ (cause ≡ 9))
+why-cut container header kept dropped cause (whole f) = inl (refl, refl, refl)
+why-cut container header kept dropped cause (cut refusal p f e) = inr (one-or-nine container header refusal f)
+
+pub CauseIsOneOrNine : promised.CauseIsOneOrNine
+CauseIsOneOrNine container kept dropped cause e =
+    let a = answered container kept dropped cause e in
+    why-cut container (a .header) kept dropped cause (a .from)
 
 -- ---- what is not
 

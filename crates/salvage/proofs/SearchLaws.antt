@@ -41,6 +41,27 @@ module _ (passes : ℕ → Bool) {top : ℕ} where
   found-good none r e = let z : _≡_ {A = ℕ} 0 1 = cc in absurd (omega arith)
   found-good (more {p} {q} {qs} h k rest) r e = by-rest r h k (lastOf passes qs) (found-good rest) e
 
+-- what a search finds is one of the places
+abbrev pub Among : ℕ → List ℕ → Type 0
+Among q ps = (before : List ℕ) × ((after : List ℕ) × (ps ≡ before ++ q ∷ after))
+
+among-more : (p q : ℕ) (ps : List ℕ) → Among q ps → Among q (p ∷ ps)
+among-more p q ps (before, (after, e)) = (p ∷ before, (after, ap (λ (l : List ℕ). p ∷ l) e))
+
+module _ (passes : ℕ → Bool) where
+  among-first : (p q : ℕ) (ps : List ℕ) (t : Bool) → cond t (upTo p) nowhere ≡ upTo q → Among q (p ∷ ps)
+  among-first p q ps true e = let is : p ≡ q = cc in ([], (ps, ap (λ (r : ℕ). r ∷ ps) is))
+  among-first p q ps false e = let z : _≡_ {A = ℕ} 0 1 = cc in absurd (omega arith)
+
+  among-rest : (p q : ℕ) (ps : List ℕ) (x : Cut) → (x ≡ upTo q → Among q ps) → orElse x (cond (passes p) (upTo p) nowhere) ≡ upTo q → Among q (p ∷ ps)
+  among-rest p q ps (upTo s) rest e = among-more p q ps (rest e)
+  among-rest p q ps nowhere rest e = among-first p q ps (passes p) e
+
+  pub found-among : (ps : List ℕ) (q : ℕ) → lastOf passes ps ≡ upTo q → Among q ps
+  unfolding lastOf
+  found-among [] q e = let z : _≡_ {A = ℕ} 0 1 = cc in absurd (omega arith)
+  found-among (p ∷ ps) q e = among-rest p q ps (lastOf passes ps) (found-among ps q) e
+
 -- the place found, or another one where none is
 abbrev pub bestOf : Cut → ℕ → ℕ
 bestOf (upTo p) best = p

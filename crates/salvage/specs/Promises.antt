@@ -3,7 +3,9 @@ use Prim.Native.Nat.{ℕ, _+_, _<_}
 use mathlib.Core.Path.{_≡_}
 use mathlib.Core.List.{List, _∷_, _++_}
 use mathlib.Core.Bool.{true, false}
+use mathlib.Core.Logic.{_⊎_}
 use lib.ListN.{length, take}
+use denote.Ref.{RefT, now}
 use Rattle.refusal.specs.declared.Refusal.{Refusal}
 use Rattle.refusal.specs.declared.Cause.the-variants.{NoBeginning}
 use Rattle.refusal.specs.Numbers.{numberOf}
@@ -12,7 +14,7 @@ use Rattle.header.specs.declared.HeaderAnswer.the-variants as answer
 use Rattle.header.specs.Headers.{headerOf}
 use Rattle.film.specs.Films.{refused, filmOf}
 use Rattle.salvage.specs.declared.Salvaged.the-variants.{Kept, Refused}
-use Rattle.salvage.specs.Salvage.{how, accepted, startsOf, walkOf, salvageOf}
+use Rattle.salvage.specs.Salvage.{how, accepted, startsOf, walkOf, salvageOf, BeginningOf}
 
 -- the chunk starts of the walk, "a cut chunk's start included"
 abbrev pub cutsOf : List ℕ → Header → List ℕ
@@ -27,6 +29,25 @@ abbrev pub NoLongerIsAccepted : Type 0
 NoLongerIsAccepted =
     (container : List ℕ) (kept dropped cause : ℕ) (header : Header) (before : List ℕ) (p : ℕ) (after : List ℕ) → salvageOf container ≡ Kept kept dropped cause
     → headerOf container how ≡ answer.Read header → cutsOf container header ≡ before ++ p ∷ after → kept < p → accepted (take p container) ≡ false
+
+-- "among those ending at a chunk start of the walk, a cut chunk's start included": what is kept is the whole container, or ends at such a start.
+abbrev pub KeptEndsAtAChunk : Type 0
+KeptEndsAtAChunk =
+    (container : List ℕ) (kept dropped cause : ℕ) → salvageOf container ≡ Kept kept dropped cause
+    → (kept ≡ length container)
+    ⊎ ((header : Header) × ((headerOf container how ≡ answer.Read header) × ((before : List ℕ) × ((after : List ℕ) × (cutsOf container header ≡ before ++ kept ∷ after)))))
+
+-- "the number of the refusal that caused the cut": nothing was cut and it is 0, or it is 1 or 9.
+abbrev pub CauseIsOneOrNine : Type 0
+CauseIsOneOrNine =
+    (container : List ℕ) (kept dropped cause : ℕ) → salvageOf container ≡ Kept kept dropped cause
+    → ((kept ≡ length container) × (dropped ≡ 0) × (cause ≡ 0)) ⊎ ((cause ≡ 1) ⊎ (cause ≡ 9))
+
+-- The part that is handed out is that beginning, byte for byte, and is accepted.
+abbrev pub BeginningIsAccepted : Type 0
+BeginningIsAccepted =
+    (container r : RefT (List ℕ)) (kept dropped cause : ℕ) → BeginningOf container r → salvageOf (now container) ≡ Kept kept dropped cause
+    → (now r ≡ take kept (now container)) × (accepted (now r) ≡ true)
 
 -- What is kept and what is dropped is the container.
 abbrev pub KeptAndDropped : Type 0
