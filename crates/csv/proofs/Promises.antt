@@ -6,7 +6,7 @@ use mathlib.Core.Bool.{Bool, true, false, cond}
 use Prim.Native.Nat.{ℕ, zero, suc, _+_, _≤_}
 use native.Mathlib.Omega.{arith}
 use lib.ListN.{length, take, drop}
-use lib.Seq.{sets-eq, take-at}
+use lib.Seq.{sets-eq, length-sets, take-at, drop-at}
 use lib.Dec.{eqb}
 use borrow.Author.Tests.{eqb-false}
 use Rattle.lent.specs.declared.Written.the-variants.{Size}
@@ -75,6 +75,18 @@ ReadingBack bytes place m out out′ size w =
     let room : 0 + length csv ≤ length out = omega (arith, planned .1) in
     let front : take size out′ ≡ csv = ap (take size) (w .1 ∙ sets-eq csv out 0 room) ∙ take-at csv (drop (0 + length csv) out) size sized in
     ap recordsIn front ∙ FieldsReadBack (textsAt bytes place m) (at-some bytes place m)
+
+pub RefusalsLeaveTheOutput : promised.RefusalsLeaveTheOutput
+RefusalsLeaveTheOutput bytes place m out out′ refusal w = w .1
+
+pub BytesPastTheCsvStay : promised.BytesPastTheCsvStay
+BytesPastTheCsvStay bytes place m out out′ size w =
+    let csv = csvOf (textsAt bytes place m) in
+    let planned = planned-so (length out) (toWrite (length csv) (tableAt bytes place m)) size (sym (w .0)) in
+    let sized = to-write (length csv) size (tableAt bytes place m) (planned .0) in
+    let room : 0 + length csv ≤ length out = omega (arith, planned .1) in
+    let n : 0 + length csv ≡ size = omega arith in
+    (ap length (w .1) ∙ length-sets out 0 csv, ap (drop size) (w .1 ∙ sets-eq csv out 0 room) ∙ drop-at csv (drop (0 + length csv) out) size sized ∙ ap (λ (k : ℕ). drop k out) n)
 
 pub EveryCellIsRead : promised.EveryCellIsRead
 unfolding tableOf

@@ -2,7 +2,7 @@
 use Prim.Native.Nat.{ℕ, zero, suc, _+_}
 use mathlib.Core.Path.{_≡_}
 use mathlib.Core.List.{List}
-use lib.ListN.{take, drop}
+use lib.ListN.{length, take, drop}
 use Rattle.laws.specs.Lists.{at}
 use Rattle.reading.specs.declared.TableMode.{TableMode}
 use Rattle.layout.specs.declared.Layout.{Layout}
@@ -13,6 +13,8 @@ use Rattle.column.specs.Storages.{inRecord, inRow}
 use Rattle.table.specs.declared.TableAnswer.the-variants.{Table}
 use Rattle.table.specs.Tables.{tableAt}
 use Rattle.csv_text.specs.Reading.{recordsIn}
+use Rattle.refusal.specs.declared.Refusal.{Refusal}
+use Rattle.lent.specs.declared.Written.the-variants as written
 use Rattle.lent.specs.declared.Written.the-variants.{Size}
 use Rattle.csv.specs.declared.Line.{Line}
 use Rattle.csv.specs.declared.Line.the-variants.{Names, Cells}
@@ -24,6 +26,17 @@ abbrev pub ReadingBack : Type 0
 ReadingBack =
     (bytes : List ℕ) (place : ℕ) (m : TableMode) (out out′ : List ℕ) (size : ℕ) → Writing bytes place m out (Size size) out′
     → recordsIn (take size out′) ≡ textsAt bytes place m
+
+-- "outputs untouched": a refusal leaves the output as it was
+abbrev pub RefusalsLeaveTheOutput : Type 0
+RefusalsLeaveTheOutput =
+    (bytes : List ℕ) (place : ℕ) (m : TableMode) (out out′ : List ℕ) (refusal : Refusal) → Writing bytes place m out (written.Refused refusal) out′ → out′ ≡ out
+
+-- bytes past the CSV stay: the output is as long as before, and from the size on it is the same
+abbrev pub BytesPastTheCsvStay : Type 0
+BytesPastTheCsvStay =
+    (bytes : List ℕ) (place : ℕ) (m : TableMode) (out out′ : List ℕ) (size : ℕ) → Writing bytes place m out (Size size) out′
+    → (length out′ ≡ length out) × (drop size out′ ≡ drop size out)
 
 -- ---- no empty text stands for a cell that cannot be read
 
