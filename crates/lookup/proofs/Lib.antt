@@ -6,5 +6,6 @@ pub mod NumberLaws
 pub mod NamedLaws
 pub mod ModeLaws
 pub mod OneAnswer
+pub mod RefusalLaws
 pub mod Promises
 pub mod Examples

@@ -1,6 +1,6 @@
 -- The promises of specs/Promises.antt, each under its name: a part lies within the body, which lies within the slice; and known columns
 -- are read alike. Assumes nothing.
-use mathlib.Core.Path.{_≡_, refl, sym, ap, _∙_}
+use mathlib.Core.Path.{_≡_, refl, sym, ap, _∙_, subst}
 use mathlib.Core.List.{List}
 use mathlib.Core.Bool.{true, false}
 use mathlib.Core.Logic.{_⊎_, inl, inr}
@@ -34,6 +34,7 @@ use Rattle.lookup.specs.Promises.{isNamed, LastNamed}
 use Rattle.lookup.specs.Promises as promised
 use Rattle.lookup.proofs.NamedLaws.{searched}
 use Rattle.lookup.proofs.LookupLaws.{end-of, from-end}
+use Rattle.lookup.proofs.RefusalLaws.{FairLookup, lookup-fair}
 use Rattle.lookup.proofs.ModeLaws.{from-agrees}
 
 by-table : (bytes : List ℕ) (place : ℕ) (m : TableMode) (name : List ℕ) (row : ℕ) (x : TableAnswer) → tableAt bytes place m ≡ x
@@ -109,3 +110,8 @@ unfolding recordAt offsetAt
 LookUpIsACell bytes place m name row l e h =
     let all = searched (bodyOf (drop place bytes) l) l name (l .columns) 0 (omega arith) Nowhere in
     by-search bytes place m name row l e h (all .0) (all .1)
+
+-- ---- refusals
+
+pub LookUpsRefuseByThese : promised.LookUpsRefuseByThese
+LookUpsRefuseByThese bytes place m name row refusal e = subst FairLookup e (lookup-fair bytes place m name row)

@@ -14,7 +14,9 @@ use Rattle.cell.specs.declared.Cell.{Cell}
 use Rattle.cell.specs.declared.Cell.the-variants.{Nothing}
 use Rattle.table.specs.declared.TableAnswer.the-variants.{Table}
 use Rattle.table.specs.Tables.{tableAt}
-use Rattle.table.specs.Promises.{knownIn}
+use Rattle.refusal.specs.declared.Refusal.{Refusal}
+use Rattle.table.specs.Promises.{knownIn, isOfATable}
+use Rattle.lookup.specs.declared.Lookup.the-variants as lookup
 use Rattle.lookup.specs.declared.Lookup.the-variants.{Holds}
 use Rattle.lookup.specs.declared.numbers.Line.the-variants.{Row}
 use Rattle.lookup.specs.Names.{spells}
@@ -52,3 +54,9 @@ LookUpIsACell =
     (bytes : List ℕ) (place : ℕ) (m : TableMode) (name : List ℕ) (row : ℕ) (l : Layout) → tableAt bytes place m ≡ Table l → row < l .rows
     → ((k : ℕ) × LastNamed (bodyOf (drop place bytes) l) l name k × (cellOf bytes place m name row ≡ cellBy bytes place m (Row row) k))
     ⊎ (((k : ℕ) → k < l .columns → isNamed (bodyOf (drop place bytes) l) l name k ≡ false) × (cellOf bytes place m name row ≡ Holds Nothing))
+
+-- A look-up is refused by 1, 3, 8, 9, 10 or 18, and by no other number.
+abbrev pub LookUpsRefuseByThese : Type 0
+LookUpsRefuseByThese =
+    (bytes : List ℕ) (place : ℕ) (m : TableMode) (name : List ℕ) (row : ℕ) (refusal : Refusal) → cellOf bytes place m name row ≡ lookup.NoTable refusal
+    → isOfATable (refusal .cause) ≡ true

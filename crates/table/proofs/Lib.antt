@@ -4,4 +4,5 @@ pub mod WalkLaws
 pub mod TableLaws
 pub mod ModeLaws
 pub mod OneAnswer
+pub mod RefusalLaws
 pub mod Promises

@@ -1,5 +1,5 @@
 -- The promises of specs/Promises.antt, each under its name: a layout that breaks the first is refused, and known columns are read alike. Assumes nothing.
-use mathlib.Core.Path.{_≡_, refl, ap, _∙_}
+use mathlib.Core.Path.{_≡_, refl, ap, _∙_, subst}
 use mathlib.Core.List.{List}
 use mathlib.Core.Bool.{true}
 use Prim.Native.Nat.{ℕ}
@@ -18,6 +18,7 @@ use Rattle.table.specs.Tables.{tableTo, tableFrom, tableOf}
 use Rattle.table.specs.Promises.{knownIn, relaid, inMode}
 use Rattle.table.specs.Promises as promised
 use Rattle.table.proofs.TableLaws.{laid-out}
+use Rattle.table.proofs.RefusalLaws.{FairTable, table-fair}
 use Rattle.table.proofs.ModeLaws.{walk-agrees, relaidIn, laid-alike}
 
 pub AcceptedLiesWithin : promised.AcceptedLiesWithin
@@ -41,3 +42,8 @@ module _ (place : ℕ) (t : List ℕ) where
 
 pub ModesAgree : promised.ModesAgree
 ModesAgree bytes place all = agree place (drop place bytes) all
+
+-- ---- refusals
+
+pub TablesRefuseByThese : promised.TablesRefuseByThese
+TablesRefuseByThese bytes place m refusal e = subst (FairTable place) e (table-fair bytes place m)

@@ -2,7 +2,10 @@
 use Prim.Native.Nat.{ℕ, zero, suc, _+_, _/_, _≤_}
 use mathlib.Core.Path.{_≡_}
 use mathlib.Core.List.{List}
-use mathlib.Core.Bool.{Bool, true, _||_, _&&_}
+use Rattle.refusal.specs.declared.Cause.{Cause}
+use Rattle.refusal.specs.declared.Cause.the-variants as cause
+use Rattle.refusal.specs.declared.Refusal.{Refusal}
+use mathlib.Core.Bool.{Bool, true, false, _||_, _&&_}
 use lib.ListN.{length, drop}
 use lib.Dec.{eqb}
 use Rattle.laws.specs.Lists.{at}
@@ -53,3 +56,35 @@ abbrev pub ModesAgree : Type 0
 ModesAgree =
     (bytes : List ℕ) (place : ℕ) → knownIn (drop place bytes) (layoutIn (drop place bytes) Original) ≡ true
     → tableAt bytes place ZeroColumns ≡ inMode ZeroColumns (tableAt bytes place Original)
+
+-- ---- refusals
+
+-- the causes that a table can have: 1, 3, 8, 9, 10 and 18
+abbrev pub isOfATable : Cause → Bool
+isOfATable cause.RanOut = true
+isOfATable cause.NoFilm = false
+isOfATable cause.NoTable = true
+isOfATable cause.NoVideo = false
+isOfATable cause.NoAudio = false
+isOfATable cause.NoHeaderEnd = false
+isOfATable cause.NoMetadataEnd = false
+isOfATable (cause.UnknownType kind) = true
+isOfATable cause.TooSmall = true
+isOfATable cause.TooMany = true
+isOfATable cause.TooLong = false
+isOfATable (cause.ShortOutput video audio) = false
+isOfATable (cause.ShortList count) = false
+isOfATable cause.MarkedPayload = false
+isOfATable (cause.ShortRoom size) = false
+isOfATable cause.ShortHeader = false
+isOfATable cause.UnknownStorage = true
+isOfATable cause.Foreign = false
+isOfATable cause.ManyAudios = false
+isOfATable cause.NoBeginning = false
+isOfATable cause.BadTenants = false
+isOfATable cause.CodecAlone = false
+
+-- A table is refused by 1, 3, 8, 9, 10 or 18, and by no other number, in both modes; and at its own start.
+abbrev pub TablesRefuseByThese : Type 0
+TablesRefuseByThese =
+    (bytes : List ℕ) (place : ℕ) (m : TableMode) (refusal : Refusal) → tableAt bytes place m ≡ NoTable refusal → (isOfATable (refusal .cause) ≡ true) × (refusal .place ≡ place)
