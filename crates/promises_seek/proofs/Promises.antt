@@ -1,28 +1,37 @@
 -- The promises of specs/Promises.antt, each under its name. An index that was built is the entries of the film's chunks; the entry that answers comes from a
 -- video chunk, and extraction puts that chunk's payload where the payloads before it end. Assumes nothing.
 use Prim.Native.Nat.{ℕ, _+_, _-_, _≤_, _<_}
-use mathlib.Core.Path.{_≡_, refl, sym, ap, _∙_}
+use mathlib.Core.Path.{_≡_, refl, sym, ap, _∙_, subst}
 use mathlib.Core.List.{List, [], _∷_, _++_}
+use mathlib.Core.Bool.{Bool, true, false, cond, _||_}
 use native.Mathlib.Omega.{arith}
 use native.Mathlib.Nat.{zero-add}
 use lib.ListN.{length, getD, take}
+use lib.Dec.{ltb}
 use Rattle.laws.specs.Lists.{at}
+use Rattle.reading.specs.declared.AudioChoice.{AudioChoice}
+use Rattle.reading.specs.declared.Reading.{Reading}
 use Rattle.reading.specs.declared.Applied.{Applied}
+use Rattle.reading.specs.Choices.{asOriginal}
 use Rattle.chunk.specs.declared.Kind.{Kind}
 use Rattle.chunk.specs.declared.Kind.the-variants.{Video}
 use Rattle.chunk.specs.declared.Chunk.{Chunk}
 use Rattle.chunk.specs.Chunks.{chunkAt, payloadOf}
 use Rattle.chunk.proofs.Promises.{PayloadsLieWithin}
-use Rattle.walk.specs.Walks.{videoSize}
+use Rattle.refusal.specs.declared.Cause.the-variants.{ShortOutput}
+use Rattle.walk.specs.Walks.{videoSize, audioSize}
 use Rattle.walk.proofs.WalkLaws.{stands-at-its-start}
 use Rattle.unmasking.specs.declared.Key.the-variants.{Absent}
 use Rattle.unmasking.specs.Unmasking.{unmaskingOf}
 use Rattle.header.specs.declared.Header.{Header}
-use Rattle.film.specs.Films.{Film, film, refused, filmOf}
+use Rattle.film.specs.Films.{Film, film, refused, filmOf, surveyOf}
 use Rattle.extract.specs.declared.Contents.{Contents}
 use Rattle.extract.specs.declared.Extracted.the-variants as extracted
 use Rattle.extract.specs.Streams.{videoPart}
-use Rattle.extract.specs.Extraction.{Extraction}
+use Rattle.extract.specs.declared.Extracted.{Extracted}
+use Rattle.extract.specs.Extraction.{contentsOf, refusedBy, extractedIn, extractedOf, leftBy, videoOf, audioOf, SizesWithin, Extraction}
+use Rattle.extract.specs.Promises.{withoutAudio}
+use Rattle.extract.proofs.Promises.{SizesFitTheContainer, NoAudioIsTheVideo}
 use Rattle.extract.proofs.StreamLaws.{videoUnder}
 use Rattle.extract.proofs.ResultLaws.{its-walk, its-length, both-hold, video-at}
 use Rattle.seek.specs.declared.Sought.the-variants.{At, PastTheEnd}
@@ -105,24 +114,68 @@ module _ (container : List ℕ) (video audio videoAfter audioAfter : List ℕ) (
     not-sought : (n : ℕ) → contents .«video_size» ≤ n → soughtIn index n ≡ PastTheEnd
     not-sought n l = past index (0 + videoSize chunks) n (chained 0 chunks) (omega (arith, its-size chunks f))
 
+-- ---- with whatever choice of audio
+
+-- every answer keeps the bound
+within : (container : List ℕ) (reading : Reading) (video audio : List ℕ) → SizesWithin container (extractedOf container reading video audio)
+within container reading video audio = by-film (filmOf container reading) refl
+  where
+    by-room : (t : Bool) (header : Header) (seen heard : ℕ) → seen + heard ≤ length container
+        → SizesWithin container (cond t (refusedBy (ShortOutput seen heard)) (extracted.Film (contentsOf header seen heard)))
+    by-room true header seen heard h = tt
+    by-room false header seen heard h = h
+
+    by-film : (f : Film) → filmOf container reading ≡ f → SizesWithin container (extractedIn (length video) (length audio) (surveyOf (filmOf container reading)))
+    by-film (film header applied chunks) f =
+        rw f
+        (by-room (ltb (length video) (videoSize chunks) || ltb (length audio) (audioSize chunks)) header (videoSize chunks) (audioSize chunks)
+        (SizesFitTheContainer container reading header applied (length chunks) (videoSize chunks) (audioSize chunks) (ap surveyOf f)))
+    by-film (refused refusal) f = rw f tt
+
+-- what is extracted with some choice is extracted with none too: the same size of the video, and the same bytes
+record Quiet (container video videoAfter : List ℕ) (contents : Contents) (audio : List ℕ) : Type 0 where
+  held : Contents
+  heard : List ℕ
+  extraction : Extraction container silent Absent video audio (extracted.Film held) videoAfter heard
+  sized : held .«video_size» ≡ contents .«video_size»
+
+quiet : (container : List ℕ) (choice : AudioChoice) (video audio videoAfter audioAfter : List ℕ) (contents : Contents)
+    → Extraction container (asOriginal choice) Absent video audio (extracted.Film contents) videoAfter audioAfter → Quiet container video videoAfter contents audio
+quiet container choice video audio videoAfter audioAfter contents e =
+    let r = extractedOf container silent video audio in
+    let f = filmOf container silent in
+    let seen = leftBy r video (videoOf container Absent f) in
+    let heard = leftBy r audio (audioOf container Absent f) in
+    let none : Extraction container silent Absent video audio r seen heard = (refl, refl, refl, within container silent video audio) in
+    let same = NoAudioIsTheVideo container (asOriginal choice) choice Absent video audio videoAfter audioAfter contents audio seen heard r e none in
+    record {
+      held = withoutAudio contents;
+      heard = heard;
+      extraction = subst (λ (x : Extracted). Extraction container silent Absent video audio x videoAfter heard) (same .0)
+          (subst (λ (v : List ℕ). Extraction container silent Absent video audio r v heard) (same .1) none);
+      sized = refl;
+    }
+
 pub JumpsAgreeWithTheStream : promised.JumpsAgreeWithTheStream
-JumpsAgreeWithTheStream container list index r video audio videoAfter audioAfter contents header applied chunks n i z e f l =
+JumpsAgreeWithTheStream container list index r video audio videoAfter audioAfter contents header applied chunks choice n i z e f l =
     let built : take (r .count) index ≡ entriesOf chunks = replied container list index r i z .1 ∙ ap indexOf f in
-    rw built (sought container video audio videoAfter audioAfter contents header applied e chunks f n l)
+    let q = quiet container choice video audio videoAfter audioAfter contents e in
+    rw built (sought container video audio videoAfter (q .heard) (q .held) header applied (q .extraction) chunks f n (omega (arith, q .sized, l)))
 
 pub JumpsNameTheChunk : promised.JumpsNameTheChunk
-JumpsNameTheChunk container list index r video audio videoAfter audioAfter contents header applied chunks n i z e f l =
+JumpsNameTheChunk container list index r video audio videoAfter audioAfter contents header applied chunks choice n i z e f l =
     let built : take (r .count) index ≡ entriesOf chunks = replied container list index r i z .1 ∙ ap indexOf f in
-    rw built (named container video audio videoAfter audioAfter contents header applied e chunks f n l)
+    let q = quiet container choice video audio videoAfter audioAfter contents e in
+    rw built (named container video audio videoAfter (q .heard) (q .held) header applied (q .extraction) chunks f n (omega (arith, q .sized, l)))
 
 pub PastTheSizeIsPastTheEnd : promised.PastTheSizeIsPastTheEnd
-PastTheSizeIsPastTheEnd container list index r video audio videoAfter audioAfter contents n i z e l = by-film (filmOf container silent) refl
+PastTheSizeIsPastTheEnd container list index r video audio videoAfter audioAfter contents choice n i z e l = by-film (quiet container choice video audio videoAfter audioAfter contents e) (filmOf container silent) refl
   where
-    by-film : (f : Film) → filmOf container silent ≡ f → soughtIn (take (r .count) index) n ≡ PastTheEnd
-    by-film (film header applied chunks) f =
+    by-film : (q : Quiet container video videoAfter contents audio) (f : Film) → filmOf container silent ≡ f → soughtIn (take (r .count) index) n ≡ PastTheEnd
+    by-film q (film header applied chunks) f =
         let built : take (r .count) index ≡ entriesOf chunks = replied container list index r i z .1 ∙ ap indexOf f in
-        rw built (not-sought container video audio videoAfter audioAfter contents header applied e chunks f n l)
-    by-film (refused refusal) f =
-        let q : extracted.Film contents ≡ extracted.Refused refusal = rw f at (e .0) in
+        rw built (not-sought container video audio videoAfter (q .heard) (q .held) header applied (q .extraction) chunks f n (omega (arith, q .sized, l)))
+    by-film q (refused refusal) f =
+        let never : extracted.Film (q .held) ≡ extracted.Refused refusal = rw f at (q .extraction .0) in
         let z : _≡_ {A = ℕ} 0 1 = cc in
         absurd (omega arith)

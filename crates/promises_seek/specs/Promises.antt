@@ -5,7 +5,9 @@ use mathlib.Core.Path.{_≡_}
 use mathlib.Core.List.{List, _∷_, _++_}
 use lib.ListN.{take}
 use Rattle.laws.specs.Lists.{at}
+use Rattle.reading.specs.declared.AudioChoice.{AudioChoice}
 use Rattle.reading.specs.declared.Applied.{Applied}
+use Rattle.reading.specs.Choices.{asOriginal}
 use Rattle.chunk.specs.declared.Kind.the-variants.{Video}
 use Rattle.chunk.specs.declared.Chunk.{Chunk}
 use Rattle.chunk.specs.declared.ChunkStep.{ChunkStep}
@@ -35,13 +37,14 @@ abbrev pub LeadsTo : List ℕ → Applied → Sought → ℕ → Type 0
 LeadsTo container reading (At start offset) byte = HoldsAt container (chunkAt container reading start) offset byte
 LeadsTo container reading PastTheEnd byte = ⊥
 
--- For every byte of the stream that extraction writes without a key, a jump by an index that was built leads to that byte; an empty payload never answers.
+-- For every byte of the video that extraction writes without a key, with whatever choice of audio, a jump by an index that was built leads to that byte; an empty payload never
+-- answers.
 abbrev pub JumpsAgreeWithTheStream : Type 0
 JumpsAgreeWithTheStream =
     (container : List ℕ) (list index : List (List ℕ)) (r : ListReply) (video audio videoAfter audioAfter : List ℕ) (contents : Contents) (header : Header) (applied : Applied)
-    (chunks : List Chunk) (n : ℕ)
+    (chunks : List Chunk) (choice : AudioChoice) (n : ℕ)
     → Indexing container list r index → r .number ≡ 0
-    → Extraction container silent Absent video audio (extracted.Film contents) videoAfter audioAfter
+    → Extraction container (asOriginal choice) Absent video audio (extracted.Film contents) videoAfter audioAfter
     → filmOf container silent ≡ film header applied chunks
     → n < contents .«video_size» → LeadsTo container applied (soughtIn (take (r .count) index) n) (at videoAfter n)
 
@@ -62,16 +65,16 @@ pub record Holds (chunks : List Chunk) (n : ℕ) (answer : Sought) : Type 0 wher
 abbrev pub JumpsNameTheChunk : Type 0
 JumpsNameTheChunk =
     (container : List ℕ) (list index : List (List ℕ)) (r : ListReply) (video audio videoAfter audioAfter : List ℕ) (contents : Contents) (header : Header) (applied : Applied)
-    (chunks : List Chunk) (n : ℕ)
+    (chunks : List Chunk) (choice : AudioChoice) (n : ℕ)
     → Indexing container list r index → r .number ≡ 0
-    → Extraction container silent Absent video audio (extracted.Film contents) videoAfter audioAfter
+    → Extraction container (asOriginal choice) Absent video audio (extracted.Film contents) videoAfter audioAfter
     → filmOf container silent ≡ film header applied chunks
     → n < contents .«video_size» → Holds chunks n (soughtIn (take (r .count) index) n)
 
 -- ""past the end" for n at or above the size"
 abbrev pub PastTheSizeIsPastTheEnd : Type 0
 PastTheSizeIsPastTheEnd =
-    (container : List ℕ) (list index : List (List ℕ)) (r : ListReply) (video audio videoAfter audioAfter : List ℕ) (contents : Contents) (n : ℕ)
+    (container : List ℕ) (list index : List (List ℕ)) (r : ListReply) (video audio videoAfter audioAfter : List ℕ) (contents : Contents) (choice : AudioChoice) (n : ℕ)
     → Indexing container list r index → r .number ≡ 0
-    → Extraction container silent Absent video audio (extracted.Film contents) videoAfter audioAfter
+    → Extraction container (asOriginal choice) Absent video audio (extracted.Film contents) videoAfter audioAfter
     → contents .«video_size» ≤ n → soughtIn (take (r .count) index) n ≡ PastTheEnd

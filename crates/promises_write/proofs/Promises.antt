@@ -2,13 +2,16 @@
 use Prim.Native.Nat.{ℕ, _+_, _≤_}
 use mathlib.Core.Path.{_≡_, refl, sym, ap, ap₂, _∙_, subst}
 use mathlib.Core.List.{List, []}
-use mathlib.Core.Bool.{Bool, true, false, cond}
+use mathlib.Core.Bool.{Bool, true, false, not, cond, _||_, _&&_}
 use native.Mathlib.Omega.{arith}
 use lib.ListN.{length, take, drop}
-use lib.Seq.{sets-eq, take-at}
+use lib.Seq.{sets-eq, length-sets, take-at, drop-at}
+use lib.Dec.{ltb}
 use borrow.Author.Tests.{le-ltb}
 use Rattle.reading.specs.declared.Reading.{Reading}
 use Rattle.reading.specs.Choices.{takesChannel, appliedTo}
+use Rattle.refusal.specs.declared.Cause.the-variants.{TooLong, MarkedPayload, CodecAlone}
+use Rattle.unmasking.specs.declared.Key.{Key}
 use Rattle.unmasking.specs.declared.Key.the-variants.{Given}
 use Rattle.chunk.specs.declared.Chunk.{Chunk}
 use Rattle.header.specs.declared.Header.{Header}
@@ -20,14 +23,18 @@ use Rattle.extract.specs.declared.Extracted.the-variants as extracted
 use Rattle.extract.specs.Extraction.{extractedIn, extractedOf, videoOf, audioOf, leftBy, SizesWithin, Extraction}
 use Rattle.extract.proofs.Promises.{SizesAreTheStreams, OneFilmWhereBitsAgree}
 use Rattle.lent.specs.declared.Written.the-variants.{Size}
+use Rattle.lent.specs.Written.{writtenIn}
 use Rattle.lent.proofs.RoomLaws.{planned-so}
 use Rattle.write_plan.specs.declared.Packing.{Packing}
 use Rattle.write_plan.specs.Films.{bytesOf, headerBlocks, audioIn, filmBytes}
-use Rattle.write_plan.specs.Planning.{plannedOf}
+use Rattle.write_plan.specs.Payloads.{payloadsOf}
+use Rattle.write_plan.specs.Sizes.{filmSize}
+use Rattle.write_plan.specs.Planning.{refusedBy, isGiven, anyMarked, plannedOf}
+use Rattle.write_plan.proofs.LengthLaws.{film-length}
 use Rattle.write_plan.proofs.PlanLaws.{Accepted, accepted}
 use Rattle.write.specs.Writing.{Writing}
 use Rattle.promises_write.specs.Promises as promised
-use Rattle.promises_write.specs.Promises.{CodecFits, headerBack, contentsBack, GivesBack}
+use Rattle.promises_write.specs.Promises.{CodecFits, headerBack, contentsBack, GivesBack, withKey}
 use Rattle.promises_write.specs.Listing.{linesOf, chunksFrom}
 use Rattle.promises_write.proofs.StoredLaws.{film-stored, plan-stored, audio-stored}
 use Rattle.promises_write.proofs.FilmBackLaws.{film-is, video-is, audio-is, name-is}
@@ -117,6 +124,33 @@ pub ListingBack : promised.ListingBack
 ListingBack name video audio packing out out′ size reading mpeg other w chosen =
     ap (λ (l : List ℕ). filmOf l reading) (written-is name video audio packing out out′ size mpeg other w reading chosen)
     ∙ film-read name video audio packing out out′ size mpeg other w reading chosen
+
+-- ---- the output, and the key
+
+pub RefusalsLeaveTheOutput : promised.RefusalsLeaveTheOutput
+RefusalsLeaveTheOutput name video audio packing out out′ refusal w = w .1
+
+pub BytesPastTheFilmStay : promised.BytesPastTheFilmStay
+BytesPastTheFilmStay name video audio packing out out′ size w =
+    let heard = audioIn packing audio in
+    let film = filmBytes name video heard packing in
+    let so = planned-so (length out) (plannedOf name video heard packing) size (sym (w .0)) in
+    let sized = accepted name video heard packing size (so .0) .sized in
+    let room : 0 + length film ≤ length out = omega (arith, so .1, sized) in
+    let n : 0 + length film ≡ size = omega (arith, sized) in
+    (ap length (w .1) ∙ length-sets out 0 film, ap (drop size) (w .1 ∙ sets-eq film out 0 room) ∙ drop-at film (drop (0 + length film) out) size (sym sized) ∙ ap (λ (k : ℕ). drop k out) n)
+
+same-plan : (name video audio : List ℕ) (packing : Packing) (key : Key) → plannedOf name video audio packing ≡ plannedOf name video audio (withKey key packing)
+unfolding plannedOf filmSize
+same-plan name video audio packing key =
+    ap (λ (n : ℕ).
+    cond (not (packing .audio) && isGiven (packing .«audio_codec»)) (refusedBy CodecAlone)
+    (cond (ltb 0x40000000 n) (refusedBy TooLong) (cond (anyMarked (payloadsOf video) || anyMarked (payloadsOf audio)) (refusedBy MarkedPayload) (Size n))))
+    (film-length name video audio packing ∙ sym (film-length name video audio (withKey key packing)))
+
+pub NoKeyChangesTheAnswer : promised.NoKeyChangesTheAnswer
+NoKeyChangesTheAnswer name video audio packing key out out′ room room′ r r′ l w w′ =
+    w .0 ∙ ap₂ writtenIn l (same-plan name video (audioIn packing audio) packing key) ∙ sym (w′ .0)
 
 -- ---- as it is stored
 

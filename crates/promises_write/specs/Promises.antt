@@ -4,12 +4,14 @@ use mathlib.Core.Path.{_≡_}
 use mathlib.Core.Logic.{_↔_}
 use mathlib.Core.List.{List, [], _∷_, _++_}
 use mathlib.Core.Bool.{true, cond}
-use lib.ListN.{length, take}
+use lib.ListN.{length, take, drop}
 use lib.Seq.{sets}
 use lib.Dec.{eqb}
+use Rattle.refusal.specs.declared.Refusal.{Refusal}
 use Rattle.reading.specs.declared.Reading.{Reading}
 use Rattle.reading.specs.Choices.{takesChannel, appliedTo}
 use Rattle.key.specs.CountingBits.{AgreeWhereItCounts}
+use Rattle.unmasking.specs.declared.Key.{Key}
 use Rattle.unmasking.specs.declared.Key.the-variants as key
 use Rattle.unmasking.specs.declared.Key.the-variants.{Given}
 use Rattle.unmasking.specs.declared.Unmasking.{Unmasking}
@@ -21,7 +23,7 @@ use Rattle.extract.specs.declared.Extracted.{Extracted}
 use Rattle.extract.specs.declared.Extracted.the-variants as extracted
 use Rattle.extract.specs.Extraction.{contentsOf, Extraction}
 use Rattle.lent.specs.declared.Written.{Written}
-use Rattle.lent.specs.declared.Written.the-variants.{Size}
+use Rattle.lent.specs.declared.Written.the-variants.{Size, Refused}
 use Rattle.write_plan.specs.declared.Stream.{Stream}
 use Rattle.write_plan.specs.declared.Stream.the-variants.{Video, Audio}
 use Rattle.write_plan.specs.Payloads.{payloadsOf, storedAs}
@@ -88,6 +90,27 @@ ListingBack =
     ≡ film (headerBack name packing (length (bytesOf (headerBlocks name packing)))) (appliedTo (packing .audio) reading)
     (chunksFrom (length (bytesOf (headerBlocks name packing))) (linesOf video (audioIn packing audio) (packing .audio)))
 
+-- "outputs untouched": a refusal leaves the output as it was
+abbrev pub RefusalsLeaveTheOutput : Type 0
+RefusalsLeaveTheOutput =
+    (name video audio : List ℕ) (packing : Packing) (out out′ : List ℕ) (refusal : Refusal) → Writing name video audio packing out (Refused refusal) out′ → out′ ≡ out
+
+-- bytes past the film stay: the output is as long as before, and from the size on it is the same
+abbrev pub BytesPastTheFilmStay : Type 0
+BytesPastTheFilmStay =
+    (name video audio : List ℕ) (packing : Packing) (out out′ : List ℕ) (size : ℕ) → Writing name video audio packing out (Size size) out′
+    → (length out′ ≡ length out) × (drop size out′ ≡ drop size out)
+
+-- a packing with a key in place of its own, or with none
+abbrev pub withKey : Key → Packing → Packing
+withKey key packing = record { audio = packing .audio; «mpeg_codec» = packing .«mpeg_codec»; «audio_codec» = packing .«audio_codec»; key = key }
+
+-- "no key and no lack of one changes a refusal .., size": whatever the key, the same film is answered alike, into outputs of the same length
+abbrev pub NoKeyChangesTheAnswer : Type 0
+NoKeyChangesTheAnswer =
+    (name video audio : List ℕ) (packing : Packing) (key : Key) (out out′ room room′ : List ℕ) (r r′ : Written) → length out ≡ length room
+    → Writing name video audio packing out r out′ → Writing name video audio (withKey key packing) room r′ room′ → r ≡ r′
+
 -- payloads as they are stored, one after the other
 unfoldable pub storedFrom : Unmasking → Stream → List (List ℕ) → List ℕ
 storedFrom by stream [] = []
@@ -98,7 +121,7 @@ abbrev pub storedIn : Packing → Stream → List ℕ → List ℕ
 storedIn packing stream bytes = storedFrom (unmaskingOf (packing .key) (packing .«audio_codec»)) stream (payloadsOf bytes)
 
 abbrev pub withoutKey : Packing → Packing
-withoutKey packing = record { audio = packing .audio; «mpeg_codec» = packing .«mpeg_codec»; «audio_codec» = packing .«audio_codec»; key = key.Absent }
+withoutKey packing = withKey key.Absent packing
 
 -- A film that is written with a key is, byte for byte, the one that is written without a key from its streams as they are stored; what is refused is refused alike.
 abbrev pub KeyedIsStored : Type 0
