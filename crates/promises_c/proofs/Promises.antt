@@ -1,8 +1,9 @@
 -- The promises of specs/Promises.antt, each under its name: a reply is the answer of the function below, of which each is promised. Assumes nothing.
 use mathlib.Core.Path.{_≡_, refl, sym, ap, _∙_, subst}
 use mathlib.Core.List.{List}
-use mathlib.Core.Logic.{_↔_}
-use Prim.Native.Nat.{ℕ}
+use mathlib.Core.Logic.{_↔_, _⊎_}
+use mathlib.Core.Bool.{true}
+use Prim.Native.Nat.{ℕ, _+_, _≤_}
 use native.Mathlib.Omega.{arith}
 use lib.ListN.{length, take}
 use Rattle.reading.specs.declared.Reading.{Reading}
@@ -17,6 +18,8 @@ use Rattle.replies.specs.declared.FilmReply.{FilmReply}
 use Rattle.replies.specs.FilmReplies.{filmReply}
 use Rattle.list.proofs.ReplyLaws.{numbered}
 use Rattle.lent.specs.declared.Written.{Written}
+use Rattle.lent.specs.declared.Written.the-variants.{Size}
+use Rattle.lent.specs.declared.SizeReply.{SizeReply}
 use Rattle.lent.specs.Written.{writtenIn, sizeReply}
 use Rattle.codec.specs.declared.Codec.{Codec}
 use Rattle.reading.specs.declared.TableMode.{TableMode}
@@ -24,11 +27,22 @@ use Rattle.table.specs.Tables.{tableAt}
 use Rattle.csv_text.specs.Written.{csvOf}
 use Rattle.csv.specs.Writing.{textsAt, toWrite}
 use Rattle.write_plan.specs.declared.Packing.{Packing}
+use Rattle.write_plan.specs.declared.Stream.the-variants.{Video, Audio}
+use Rattle.promises_write.specs.Promises.{GivesBack, storedIn}
+use Rattle.promises_refusals.specs.Promises.{sizesTold}
+use Rattle.promises_refusals.proofs.Promises.{SizesToldFit}
+use Rattle.salvage.specs.declared.Salvaged.{Salvaged}
+use Rattle.salvage.specs.declared.Salvaged.the-variants.{Kept, Refused}
+use Rattle.salvage.specs.declared.SalvageReply.{SalvageReply}
+use Rattle.salvage.specs.Salvage.{accepted, salvageOf, salvageReply}
+use Rattle.salvage.proofs.Promises as salvaged
+use Rattle.old_film.specs.Films.{oldBytes}
+use Rattle.usm.specs.Exports.{FilmReplied}
 use Rattle.write_plan.specs.Films.{audioIn, filmBytes}
 use Rattle.write_plan.specs.Planning.{plannedOf}
 use Rattle.old_film.specs.Finding as old
 use Rattle.moved_film.specs.Finding as new
-use Rattle.film_move.specs.FromOld.{newBytes, fromOld}
+use Rattle.film_move.specs.FromOld.{packingOf, newBytes, fromOld, FromOld}
 use Rattle.film_move.specs.ToOld.{oldOf, toOld}
 use Rattle.promises_write.proofs.Promises as written
 use Rattle.promises_profile.proofs.Promises as profiled
@@ -87,6 +101,41 @@ FromOldLeavesTheOutput container asked out out′ r w = leaves (onward-answer co
 pub ToOldLeavesTheOutput : promised.ToOldLeavesTheOutput
 ToOldLeavesTheOutput container out out′ r w = leaves (back-answer container out) (back-written container) out out′ r w
 
+-- ---- bytes past a size
+
+pub BytesPastTheSizeStay : promised.BytesPastTheSizeStay
+BytesPastTheSizeStay = (
+  λ name video audio packing out out′ r w z.
+      written.BytesPastTheFilmStay name video audio packing out out′ (r .size) (writing (write-answer name video audio packing out) (film-written name video audio packing out) out out′ r w z),
+  λ bytes place m out out′ r w z. csv.BytesPastTheCsvStay bytes place m out out′ (r .size) (writing (csv-answer bytes place m out) (csv-written bytes place m) out out′ r w z),
+  λ container asked out out′ r w z.
+      moved.BytesPastTheSizeStay out out′ (r .size) .0 container (videoCodec asked) (audioCodec asked) (writing (onward-answer container asked out) (onward-written container asked) out out′ r w z),
+  λ container out out′ r w z. moved.BytesPastTheSizeStay out out′ (r .size) .1 container (writing (back-answer container out) (back-written container) out out′ r w z),
+)
+
+-- ---- a film that is read
+
+sizes-replied : (fallback : ℕ) (x : Extracted) → filmReply fallback x .«video_size» + filmReply fallback x .«audio_size» ≡ sizesTold x
+sizes-replied fallback (extracted.Film contents) = refl
+sizes-replied fallback (extracted.Refused refusal) = refl
+
+pub EverySizeFits : promised.EverySizeFits
+EverySizeFits container reading key fallback video audio r videoAfter audioAfter l =
+    let x = extractedOf container reading video audio in
+    let fit = SizesToldFit container reading key video audio videoAfter audioAfter x (l .1) in
+    rw (l .0) (omega (arith, fit, sizes-replied (length fallback) x))
+
+pub KeptIsAccepted : promised.KeptIsAccepted
+KeptIsAccepted container r e z = by-answer (salvageOf container) refl
+  where
+    by-answer : (x : Salvaged) → salvageOf container ≡ x
+        → (accepted (take (r .kept) container) ≡ true) × (r .kept + r .dropped ≡ length container)
+        × (((r .kept ≡ length container) × (r .dropped ≡ 0) × (r .cause ≡ 0)) ⊎ ((r .cause ≡ 1) ⊎ (r .cause ≡ 9)))
+    by-answer (Kept kept dropped cause) f =
+        rw (e ∙ ap salvageReply f)
+        (salvaged.KeptIsAccepted container kept dropped cause f, salvaged.KeptAndDropped container kept dropped cause f, salvaged.CauseIsOneOrNine container kept dropped cause f)
+    by-answer (Refused refusal) f = absurd (numbered (refusal .cause) (sym (ap (λ (reply : SalvageReply). reply .number) (e ∙ ap salvageReply f)) ∙ z))
+
 pub WrittenIsReadBack : promised.WrittenIsReadBack
 WrittenIsReadBack name video audio packing out out′ r reading fallback seen heard seen′ heard′ r′ mpeg other w z chosen v a l =
     let wrote = writing (write-answer name video audio packing out) (film-written name video audio packing out) out out′ r w z in
@@ -121,6 +170,32 @@ NewAgain container asked out out′ r back back′ r′ video audio w z fits w�
     (subst (λ (a : Codec). WrittenAs (writtenIn (length back) (fromOld bytes (videoCodec asked) a)) (newBytes (old.partsOf bytes) (videoCodec asked) a) back r′ back′) audio w′) in
     let again = moved.NewAgain container out out′ (r .size) back back′ (writtenIn (length back) (fromOld bytes (parts .«mpeg_codec») (parts .«audio_codec»))) moved-back fits (refl, named .1) in
     (named .0 ∙ ap sizeReply (again .0), again .1)
+
+-- a reply that reads back, from an extraction that gives back
+replied-back : (name video audio : List ℕ) (packing : Packing) (container : List ℕ) (reading : Reading) (fallback seen heard seen′ heard′ : List ℕ) (r : FilmReply)
+    → FilmReplied container reading (packing .key) fallback seen heard r seen′ heard′
+    → GivesBack name video audio packing container seen heard (extractedOf container reading seen heard) seen′ heard′
+    → promised.RepliesBack name video audio packing container fallback seen heard r seen′ heard′
+replied-back name video audio packing container reading fallback seen heard seen′ heard′ r l back =
+    let q = l .0 ∙ ap (filmReply (length fallback)) (back .0) in
+    (q, rw q (back .1), back .2, back .3)
+
+pub MovedIsRead : promised.MovedIsRead
+MovedIsRead name video sound packing asked out out′ r reading fallback seen heard seen′ heard′ r′ utf8 silent mpeg other v a w z chosen rv ra l =
+    let film′ = oldBytes name (storedIn packing Video video) (old.audiosOf (packing .audio) (storedIn packing Audio sound)) in
+    let moved-on = writing (onward-answer film′ asked out) (onward-written film′ asked) out out′ r w z in
+    let named : FromOld film′ (packing .«mpeg_codec») (packing .«audio_codec») out (Size (r .size)) out′ =
+    subst (λ (c : Codec). FromOld film′ c (packing .«audio_codec») out (Size (r .size)) out′) v
+    (subst (λ (c : Codec). FromOld film′ (videoCodec asked) c out (Size (r .size)) out′) a moved-on) in
+    replied-back name video sound packing (take (r .size) out′) reading fallback seen heard seen′ heard′ r′ l
+    (moved.MovedIsRead name video sound packing out out′ (r .size) reading seen heard seen′ heard′ (extractedOf (take (r .size) out′) reading seen heard) utf8 silent mpeg other named chosen rv ra (l .1))
+
+pub MovedIsPlain : promised.MovedIsPlain
+MovedIsPlain film′ asked out out′ r r′ mpeg other w z e =
+    let moved-on = writing (onward-answer film′ asked out) (onward-written film′ asked) out out′ r w z in
+    let from = moved.MovedIsWritten film′ (videoCodec asked) (audioCodec asked) out out′ (r .size) moved-on in
+    let q = e ∙ ap profileReply (profiled.WrittenIsPlain (from .0 .name) (from .0 .video) (from .0 .sound) (packingOf (from .0 .audio) (videoCodec asked) (audioCodec asked)) out out′ (r .size) mpeg other (from .1)) in
+    (ap (λ (reply : ProfileReply). reply .number) q, ap (λ (reply : ProfileReply). reply .rule) q)
 
 -- ---- two keys
 

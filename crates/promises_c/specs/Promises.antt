@@ -1,16 +1,17 @@
 -- What is promised of the functions for C, on the replies that they give and on what they leave in outputs. Each is proved under the same name in proofs/Promises.antt.
-use Prim.Native.Nat.{ℕ, _≤_}
+use Prim.Native.Nat.{ℕ, _+_, _≤_}
 use mathlib.Core.Path.{_≡_}
-use mathlib.Core.Bool.{true}
-use mathlib.Core.Logic.{_↔_}
-use mathlib.Core.List.{List}
-use lib.ListN.{length, take}
+use mathlib.Core.Bool.{true, false}
+use mathlib.Core.Logic.{_↔_, _⊎_}
+use mathlib.Core.List.{List, []}
+use lib.ListN.{length, take, drop}
 use lib.Seq.{sets}
 use Rattle.part.specs.Parts.{partAt}
 use Rattle.reading.specs.declared.TableMode.{TableMode}
 use Rattle.reading.specs.declared.Reading.{Reading}
 use Rattle.reading.specs.Choices.{takesChannel}
 use Rattle.key.specs.LaneBits.{AgreeIn}
+use Rattle.unmasking.specs.declared.Key.{Key}
 use Rattle.unmasking.specs.declared.Key.the-variants.{Given}
 use Rattle.film.specs.Films.{filmOf}
 use Rattle.extract.specs.declared.Extracted.the-variants as extracted
@@ -21,7 +22,13 @@ use Rattle.lent.specs.declared.SizeReply.{SizeReply}
 use Rattle.lent.specs.Written.{sizeReply}
 use Rattle.write_plan.specs.declared.Packing.{Packing}
 use Rattle.write_plan.specs.Films.{audioIn}
-use Rattle.promises_write.specs.Promises.{CodecFits, contentsBack}
+use Rattle.write_plan.specs.declared.Stream.the-variants.{Video, Audio}
+use Rattle.promises_write.specs.Promises.{CodecFits, contentsBack, storedIn}
+use Rattle.utf8.specs.Utf8.{isUtf8}
+use Rattle.old_film.specs.Films.{oldBytes}
+use Rattle.old_film.specs.Finding.{audiosOf}
+use Rattle.salvage.specs.declared.SalvageReply.{SalvageReply}
+use Rattle.salvage.specs.Salvage.{accepted, salvageOf, salvageReply}
 use Rattle.csv_text.specs.Reading.{recordsIn}
 use Rattle.csv.specs.Writing.{textsAt}
 use Rattle.profile.specs.declared.ProfileReply.{ProfileReply}
@@ -56,6 +63,35 @@ FromOldLeavesTheOutput = (container : List ℕ) (asked : CodecBytes) (out out′
 -- A refusal of `usm_to_old` leaves its output as it was.
 abbrev pub ToOldLeavesTheOutput : Type 0
 ToOldLeavesTheOutput = (container out out′ : List ℕ) (r : SizeReply) → ToOldFor container out r out′ → Leaves r out out′
+
+-- ---- bytes past a size
+
+-- number 0: the output is as long as before, and from the size on it is the same
+abbrev pub KeepsTheRest : SizeReply → List ℕ → List ℕ → Type 0
+KeepsTheRest r out out′ = r .number ≡ 0 → (length out′ ≡ length out) × (drop (r .size) out′ ≡ drop (r .size) out)
+
+-- `usm_write`, `usm_csv`, `usm_from_old` and `usm_to_old` change no byte past the size that they reply.
+abbrev pub BytesPastTheSizeStay : Type 0
+BytesPastTheSizeStay =
+    ((name video audio : List ℕ) (packing : Packing) (out out′ : List ℕ) (r : SizeReply) → WrittenFor name video audio packing out r out′ → KeepsTheRest r out out′)
+    × ((bytes : List ℕ) (place : ℕ) (m : TableMode) (out out′ : List ℕ) (r : SizeReply) → CsvFor bytes place m out r out′ → KeepsTheRest r out out′)
+    × ((container : List ℕ) (asked : CodecBytes) (out out′ : List ℕ) (r : SizeReply) → FromOldFor container asked out r out′ → KeepsTheRest r out out′)
+    × ((container out out′ : List ℕ) (r : SizeReply) → ToOldFor container out r out′ → KeepsTheRest r out out′)
+
+-- ---- a film that is read
+
+-- Request 10: both sizes that `usm_extract` replies together never exceed the container: for every reading, and with every number, 12 too.
+abbrev pub EverySizeFits : Type 0
+EverySizeFits =
+    (container : List ℕ) (reading : Reading) (key : Key) (fallback video audio : List ℕ) (r : FilmReply) (videoAfter audioAfter : List ℕ)
+    → FilmReplied container reading key fallback video audio r videoAfter audioAfter → r .«video_size» + r .«audio_size» ≤ length container
+
+-- What `usm_salvage` keeps is accepted, with what it drops it is the container, and why it was cut is 0 where nothing was, else 1 or 9.
+abbrev pub KeptIsAccepted : Type 0
+KeptIsAccepted =
+    (container : List ℕ) (r : SalvageReply) → r ≡ salvageReply (salvageOf container) → r .number ≡ 0
+    → (accepted (take (r .kept) container) ≡ true) × (r .kept + r .dropped ≡ length container)
+    × (((r .kept ≡ length container) × (r .dropped ≡ 0) × (r .cause ≡ 0)) ⊎ ((r .cause ≡ 1) ⊎ (r .cause ≡ 9)))
 
 -- ---- a film that is written
 
@@ -109,6 +145,25 @@ NewAgain =
     (container : List ℕ) (asked : CodecBytes) (out out′ : List ℕ) (r : SizeReply) (back back′ : List ℕ) (r′ : SizeReply)
     → videoCodec asked ≡ partsOf container .packing .«mpeg_codec» → audioCodec asked ≡ partsOf container .packing .«audio_codec»
     → ToOldFor container out r out′ → r .number ≡ 0 → length container ≤ length back → FromOldFor (take (r .size) out′) asked back r′ back′ → Gives container back r′ back′
+
+-- A film of the builder whose payloads are masked under a key, or under none, moved by `usm_from_old` with its codecs, is read back by `usm_extract` under that key: its name, the
+-- codecs, both streams in the clear.
+abbrev pub MovedIsRead : Type 0
+MovedIsRead =
+    (name video sound : List ℕ) (packing : Packing) (asked : CodecBytes) (out out′ : List ℕ) (r : SizeReply) (reading : Reading) (fallback seen heard seen′ heard′ : List ℕ)
+    (r′ : FilmReply)
+    → isUtf8 name ≡ true → (packing .audio ≡ false → sound ≡ []) → CodecFits (packing .«mpeg_codec») → CodecFits (packing .«audio_codec»)
+    → videoCodec asked ≡ packing .«mpeg_codec» → audioCodec asked ≡ packing .«audio_codec»
+    → FromOldFor (oldBytes name (storedIn packing Video video) (audiosOf (packing .audio) (storedIn packing Audio sound))) asked out r out′ → r .number ≡ 0
+    → takesChannel (reading .audio) 0 ≡ true → length video ≤ length seen → length sound ≤ length heard
+    → FilmReplied (take (r .size) out′) reading (packing .key) fallback seen heard r′ seen′ heard′
+    → RepliesBack name video sound packing (take (r .size) out′) fallback seen heard r′ seen′ heard′
+
+-- And `usm_profile` finds plain whatever `usm_from_old` moves.
+abbrev pub MovedIsPlain : Type 0
+MovedIsPlain =
+    (film : List ℕ) (asked : CodecBytes) (out out′ : List ℕ) (r : SizeReply) (r′ : ProfileReply) → CodecFits (videoCodec asked) → CodecFits (audioCodec asked)
+    → FromOldFor film asked out r out′ → r .number ≡ 0 → r′ ≡ profileReply (profileOf (take (r .size) out′)) → (r′ .number ≡ 0) × (r′ .rule ≡ 0)
 
 -- ---- two keys
 

@@ -70,12 +70,12 @@ module _ (film : List ℕ) (mpeg other : Codec) (n : ℕ) (e : fromOld film mpeg
   pub moved-taken : Accepted (P .name) (P .read .video) (P .read .audio) by n
   moved-taken = accepted (P .name) (P .read .video) (P .read .audio) by n (moved-so .2)
 
-  film-is : (isUtf8 (P .name) ≡ true) × (film ≡ old.rebuilt P)
+  pub film-is : (isUtf8 (P .name) ≡ true) × (film ≡ old.rebuilt P)
   film-is =
       let b = both-true (isUtf8 (P .name)) (sameBytes film (old.rebuilt P)) (moved-so .1) in
       (b .0, same-true film (old.rebuilt P) (b .1))
 
-  film-silent : P .audio ≡ false → P .read .audio ≡ []
+  pub film-silent : P .audio ≡ false → P .read .audio ≡ []
   unfolding old.partsOf
   film-silent f = no-audio Old (length (drop (P .start) film) + 1) 0 true (P .audio) (drop (P .start) film) f
 

@@ -5,7 +5,7 @@ use mathlib.Core.List.{List, [], _∷_}
 use mathlib.Core.Bool.{Bool, true, false, cond}
 use native.Mathlib.Omega.{arith}
 use lib.ListN.{length, take, drop}
-use lib.Seq.{sets, sets-eq, take-at}
+use lib.Seq.{sets, sets-eq, length-sets, take-at, drop-at}
 use borrow.Author.Tests.{le-ltb}
 use Rattle.refusal.specs.declared.Cause.{Cause}
 use Rattle.refusal.specs.declared.Cause.the-variants.{Foreign, ManyAudios}
@@ -31,12 +31,12 @@ use Rattle.old_film_many.specs.Audios.{isMany}
 use Rattle.old_film_many.proofs.Promises.{SeveralAreTold}
 use Rattle.moved_film.specs.Finding as new
 use Rattle.moved_film.proofs.Promises as new-film
-use Rattle.film_move.specs.FromOld.{packingOf, newBytes, fromOld, FromOld}
+use Rattle.film_move.specs.FromOld.{packingOf, newBytes, newPlan, fromOld, FromOld}
 use Rattle.film_move.specs.ToOld.{oldOf, toOld}
 use Rattle.film_move.proofs.ToLaws.{is-rebuilt}
 use Rattle.promises_move.specs.Promises as promised
 use Rattle.promises_move.specs.Promises.{Gives, RefusesBy, Moved, Built}
-use Rattle.promises_move.proofs.AgainLaws.{moved-so, moved-taken, film-short, back-is, back-planned, new-short, onward-is, onward-planned, back-so}
+use Rattle.promises_move.proofs.AgainLaws.{moved-so, film-is, film-silent, moved-taken, film-short, back-is, back-planned, new-short, onward-is, onward-planned, back-so}
 use Rattle.promises_move.proofs.BuiltLaws.{film-longer, several-not-one, one-built, many-built}
 
 -- ---- what was put at the front of an output stands there
@@ -148,6 +148,18 @@ OthersAreWritten name video audio sound mpeg other out out′ r utf8 silent with
     subst (λ (l : List ℕ). WritingOf name video l by out r out′) (spoken audio sound silent)
     (w .0 ∙ ap (writtenIn (length out)) (planned .0), w .1 ∙ ap (leftBy r out) (planned .1))
 
+pub MovedIsWritten : promised.MovedIsWritten
+MovedIsWritten film mpeg other out out′ size w =
+    let so = planned-so (length out) (fromOld film mpeg other) size (sym (w .0)) in
+    let P = old.partsOf film in
+    let is = film-is film mpeg other size (so .0) in
+    let silent = film-silent film mpeg other size (so .0) in
+    let planned = moved-so film mpeg other size (so .0) .2 in
+    let answer : Size size ≡ writtenIn (length out) (newPlan P mpeg other) = sym (ap (writtenIn (length out)) planned ∙ rw (le-ltb (length out) size (so .1))) in (
+      record { name = P .name; video = P .read .video; audio = P .audio; sound = P .read .audio; utf8 = is .0; silent = silent; whole = is .1 },
+      subst (λ (l : List ℕ). WritingOf (P .name) (P .read .video) l (packingOf (P .audio) mpeg other) out (Size size) out′) (spoken (P .audio) (P .read .audio) silent) (answer, w .1),
+    )
+
 pub MovedIsRead : promised.MovedIsRead
 MovedIsRead name video sound packing out out′ size reading seen heard seen′ heard′ r utf8 silent mpeg other w chosen v a x =
     let by = unmaskingOf (packing .key) (packing .«audio_codec») in
@@ -231,3 +243,19 @@ OldIsShorter = (
 
 pub RefusalsLeaveTheOutput : promised.RefusalsLeaveTheOutput
 RefusalsLeaveTheOutput refusal out out′ = (λ film mpeg other w. w .1, λ c w. w .1)
+
+past : (out out′ bytes : List ℕ) (size : ℕ) → size ≡ length bytes → size ≤ length out → out′ ≡ sets out 0 bytes → (length out′ ≡ length out) × (drop size out′ ≡ drop size out)
+past out out′ bytes size sized fits e =
+    let room : 0 + length bytes ≤ length out = omega (arith, sized, fits) in
+    let n : 0 + length bytes ≡ size = omega (arith, sized) in
+    (ap length e ∙ length-sets out 0 bytes, ap (drop size) (e ∙ sets-eq bytes out 0 room) ∙ drop-at bytes (drop (0 + length bytes) out) size (sym sized) ∙ ap (λ (k : ℕ). drop k out) n)
+
+pub BytesPastTheSizeStay : promised.BytesPastTheSizeStay
+BytesPastTheSizeStay out out′ size = (
+  λ film mpeg other w.
+      let so = planned-so (length out) (fromOld film mpeg other) size (sym (w .0)) in
+      past out out′ (newBytes (old.partsOf film) mpeg other) size (moved-taken film mpeg other size (so .0) .sized) (so .1) (w .1),
+  λ c w.
+      let so = planned-so (length out) (toOld c) size (sym (w .0)) in
+      past out out′ (oldOf (new.partsOf c)) size (sym (back-so c size (so .0) .2)) (so .1) (w .1),
+)

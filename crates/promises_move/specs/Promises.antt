@@ -3,7 +3,7 @@ use Prim.Native.Nat.{ℕ, _≤_, _<_}
 use mathlib.Core.Path.{_≡_}
 use mathlib.Core.List.{List, []}
 use mathlib.Core.Bool.{Bool, true, false}
-use lib.ListN.{length, take}
+use lib.ListN.{length, take, drop}
 use lib.Seq.{sets}
 use Rattle.refusal.specs.declared.Cause.{Cause}
 use Rattle.refusal.specs.declared.Cause.the-variants.{Foreign, ManyAudios}
@@ -78,6 +78,22 @@ OthersAreWritten =
     → isUtf8 name ≡ true → (audio ≡ false → sound ≡ []) → length (oldBytes name video (audiosOf audio sound)) ≤ 0x40000000
     → FromOld (oldBytes name video (audiosOf audio sound)) mpeg-codec audio-codec out r out′ → Writing name video sound (packingOf audio mpeg-codec audio-codec) out r out′
 
+-- a film of the builder, by what it was built from: a name in UTF-8, a video, whether there is audio, and the audio
+pub record BuiltFrom (film : List ℕ) : Type 0 where
+  pub name : List ℕ
+  pub video : List ℕ
+  pub audio : Bool
+  pub sound : List ℕ
+  pub utf8 : isUtf8 name ≡ true
+  pub silent : audio ≡ false → sound ≡ []
+  pub whole : film ≡ oldBytes name video (audiosOf audio sound)
+
+-- Whatever is moved is such a film, and what is written is what request 1 writes for its name and streams, without a key.
+abbrev pub MovedIsWritten : Type 0
+MovedIsWritten =
+    (film : List ℕ) (mpeg-codec audio-codec : Codec) (out out′ : List ℕ) (size : ℕ) → FromOld film mpeg-codec audio-codec out (Size size) out′
+    → (from : BuiltFrom film) × Writing (from .name) (from .video) (from .sound) (packingOf (from .audio) mpeg-codec audio-codec) out (Size size) out′
+
 -- "Payloads travel as stored": a film of the builder whose payloads are masked under a key, or under none, moved with the codecs of a packing, is extracted under that key, and
 -- with audio taken, to its name, these codecs and both streams in the clear
 abbrev pub MovedIsRead : Type 0
@@ -128,3 +144,10 @@ RefusalsLeaveTheOutput =
     (refusal : Refusal) (out out′ : List ℕ)
     → ((film : List ℕ) (mpeg-codec audio-codec : Codec) → FromOld film mpeg-codec audio-codec out (Refused refusal) out′ → out′ ≡ out)
     × ((container : List ℕ) → ToOld container out (Refused refusal) out′ → out′ ≡ out)
+
+-- bytes past the size stay, both ways: the output is as long as before, and from the size on it is the same
+abbrev pub BytesPastTheSizeStay : Type 0
+BytesPastTheSizeStay =
+    (out out′ : List ℕ) (size : ℕ)
+    → ((film : List ℕ) (mpeg-codec audio-codec : Codec) → FromOld film mpeg-codec audio-codec out (Size size) out′ → (length out′ ≡ length out) × (drop size out′ ≡ drop size out))
+    × ((container : List ℕ) → ToOld container out (Size size) out′ → (length out′ ≡ length out) × (drop size out′ ≡ drop size out))
