@@ -1,7 +1,7 @@
 //! The command `usm`: what is in USM films, their streams as files, and films made of streams.
 //!
 //! Each subcommand is a file of `commands`. They share their options (`options`), the work on many films (`run`), the
-//! files that are made (`files`), and what is printed (`output`).
+//! files that are made (`files`), what is printed (`output`), and why tenants share a copy (`sharing`).
 #![forbid(unsafe_code)]
 
 mod commands;
@@ -9,6 +9,7 @@ mod files;
 mod options;
 mod output;
 mod run;
+mod sharing;
 
 use std::io::Write;
 use std::process::ExitCode;

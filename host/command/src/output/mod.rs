@@ -4,6 +4,7 @@ pub mod csv;
 pub mod digits;
 pub mod error;
 pub mod json;
+pub mod numbers;
 pub mod text;
 
 pub use error::{Error, Status};

@@ -53,6 +53,7 @@ fn folder() -> Folder {
     let folder = Folder::with_films();
     folder.write("old.usm", &example("old.usm"));
     folder.write("tenants.csv", format!("7,{KEY}\n3,FF23456789ABCDEF\n").as_bytes());
+    folder.write("three.csv", format!("7,{KEY}\n3,FF23456789ABCDEF\n9,0123456789ABCDEE\n").as_bytes());
     folder.write("holdings.csv", HOLDINGS.as_bytes());
     folder
 }

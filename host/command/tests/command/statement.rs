@@ -130,6 +130,80 @@ fn a_film_that_is_named_twice_is_billed_once() {
 }
 
 #[test]
+fn why_tenants_share_a_copy() {
+    let folder = with_tenants();
+    let run = folder.usm(&["statement", "--why", "tenants.csv", "song.usm"]);
+    let plain = folder.usm(&["statement", "tenants.csv", "song.usm"]);
+    let (lines, totals) = plain.out.split_once("\ntotal of").unwrap();
+    run.expect(
+        0,
+        &format!(
+            "{lines}\n\
+             --++++-+++++++++  + counts for this film, - does not\n\
+             copy 1 of 2: 2,189 bytes, tenants 3, 7\n\
+             \x20 Its keys agree in every digit that counts. They differ only in digits that never reach a picture or a \
+             sound.\n\
+             \x20 ^^..............  ^ differs, and does not count\n\
+             copy 2 of 2: 2,189 bytes, tenant 9\n\
+             \x20 No other tenant has these streams.\n\
+             \x20 It is not copy 1: the keys differ in the third, the fourth, the fifth, the sixth, the eighth, the ninth, \
+             the tenth, the eleventh, the twelfth, the thirteenth, the fourteenth, the fifteenth and the sixteenth digit.\n\
+             \x20 ..^^^^.^^^^^^^^^  ^ differs and counts\n\
+             \x20 First byte that differs: 128 of the video, in the chunk at 704.\n\
+             \ntotal of{totals}"
+        ),
+        "",
+    );
+    assert!(!run.out.contains("89ABCDEF"), "no key is shown");
+}
+
+/// A film of one ADX payload, which shows the bits of a key that its length says.
+fn clip(length: usize) -> Vec<u8> {
+    let mut film = Film::new(&Header { audio: Some(Some(2)), ..Header::default() });
+    film.chunk(b"@SFA", 0, 0, &vec![7; length]);
+    film.bytes
+}
+
+#[test]
+fn every_reason() {
+    let folder = Folder::new();
+    folder.write("nothing.usm", &clip(0x140));
+    folder.write("short.usm", &clip(0x158));
+    folder.write("whole.usm", &clip(0x159));
+    folder.write("agree.csv", b"1,0\n2,FF00000000000000\n");
+    folder.write("differ.csv", b"1,0\n2,FF00FF0000000000\n");
+    folder.write("one.csv", b"1,5\n2,5\n");
+    for (tenants, film, why) in [
+        ("one.csv", "whole.usm", "one_key"),
+        ("one.csv", "nothing.usm", "one_key"),
+        ("agree.csv", "whole.usm", "keys_agree"),
+        ("agree.csv", "nothing.usm", "keys_agree"),
+        ("differ.csv", "short.usm", "not_shown"),
+        ("differ.csv", "nothing.usm", "nothing_shown"),
+        ("differ.csv", "whole.usm", "alone"),
+    ] {
+        let run = folder.usm(&["statement", "--why", "--json", tenants, film]);
+        assert!(run.out.contains(&format!("\"why\":\"{why}\"")), "{tenants} {film}: {}", run.out);
+        let csv = folder.usm(&["statement", "--why", "--csv", tenants, film]);
+        assert!(csv.out.contains(&format!(",,{why},")), "{tenants} {film}: {}", csv.out);
+    }
+    let run = folder.usm(&["statement", "--why", "--csv", "differ.csv", "short.usm", "whole.usm", "none.usm"]);
+    let lines: Vec<&str> = run.out.lines().collect();
+    assert_eq!(
+        lines[..5],
+        [
+            "file,tenant,group,bytes,error,why,apart_from,apart_in,apart_byte,apart_chunk",
+            "short.usm,1,1,172,,not_shown,,,,",
+            "short.usm,2,1,172,,not_shown,,,,",
+            "whole.usm,1,1,345,,alone,,,,",
+            &format!("whole.usm,2,2,345,,alone,1,audio,344,{}", clip(0).len() - 0x20),
+        ]
+    );
+    assert_eq!(lines[5].split(',').count(), 10, "{}", lines[5]);
+    assert_eq!(folder.usm(&["statement", "--why", "--csv", "--totals", "one.csv", "whole.usm"]).status, 2);
+}
+
+#[test]
 fn keys_on_films() {
     let folder = with_tenants();
     let run = folder.usm(&["keys", KEY, "FF23456789ABCDEF", "song.usm"]);

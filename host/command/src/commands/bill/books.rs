@@ -12,10 +12,10 @@ use rusqlite::{Connection, OptionalExtension, Params, Row, params};
 use super::copies::{Copy, Film, Key, OtherCopy, Share};
 use super::films::Identity;
 use super::holdings::Holding;
-use super::streams::Apart;
 use crate::files::identity::FileId;
 use crate::output::Error;
 use crate::run::digests::{Stream, Streams};
+use crate::sharing::apart::Apart;
 
 /// The text that computes groups and shares.
 const BILL: &str = include_str!("bill.sql");

@@ -3,10 +3,11 @@
 use std::path::PathBuf;
 
 use super::books::Books;
-use super::films::Class;
-use super::streams::Apart;
 use crate::output::Error;
 use crate::run::digests::Streams;
+use crate::sharing::apart::Apart;
+use crate::sharing::classes::{self, Class};
+use crate::sharing::why::{self, Why};
 
 pub struct Copy {
     /// By the lowest tenants, then by the digests, from 1 on.
@@ -61,6 +62,15 @@ impl Copy {
         self.shares[at].name.as_deref()
     }
 
+    /// Why its films are one copy: a sentence before those about each film.
+    pub fn why(&self) -> String {
+        match (self.films.len(), self.shares.len()) {
+            (0 | 1, 1) => why::ALONE.to_string(),
+            (0 | 1, _) => "One film serves all of them.".to_string(),
+            (films, _) => format!("{films} films, the same streams: the sizes and the digests of all of them agree."),
+        }
+    }
+
     /// The copy's lowest tenant.
     pub fn group(&self) -> u64 {
         self.shares.first().map_or(0, |share| share.tenant)
@@ -69,7 +79,13 @@ impl Copy {
 
 impl Film {
     pub fn class(&self) -> Class {
-        super::films::class(self.keys.first().and_then(|key| key.key), self.bits)
+        classes::class(self.keys.first().and_then(|key| key.key), self.bits)
+    }
+
+    /// Why its keys give one copy.
+    pub fn why(&self) -> Why {
+        let keys: Vec<Option<u64>> = self.keys.iter().map(|key| key.key).collect();
+        Why::of(self.bits, &keys)
     }
 }
 

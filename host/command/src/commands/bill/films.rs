@@ -1,6 +1,5 @@
 //! What is learnt of a film: which bits of a key it shows, and its streams under each class of keys.
 
-use std::collections::HashSet;
 use std::fs;
 use std::io::{Read, Seek};
 use std::os::unix::fs::MetadataExt;
@@ -9,13 +8,15 @@ use std::path::Path;
 use sha2::{Digest, Sha256};
 use usm::{Reader, Reading};
 
-use super::streams::{self, Apart};
+use super::streams;
 use crate::files::identity::FileId;
 use crate::output::Error;
 use crate::run::digests::Streams;
 use crate::run::input::Input;
 use crate::run::progress::Meter;
 use crate::run::sources::Source;
+use crate::sharing::apart::Apart;
+use crate::sharing::classes::Class;
 
 /// Which file a film is, and when it was changed.
 #[derive(Clone, Copy, PartialEq, Eq, Debug)]
@@ -34,20 +35,6 @@ pub fn identity(path: &Path) -> Result<Identity, String> {
     }
     let mtime = file.mtime().saturating_mul(1_000_000_000).saturating_add(file.mtime_nsec());
     Ok(Identity { id: FileId::of(&file), size: file.len(), mtime })
-}
-
-/// Keys that give a film the same streams: their bits that the film shows, and `None` for the streams as they are stored.
-pub type Class = Option<u64>;
-
-/// The class of a key. A film that shows no bit is not masked, and all its keys are one class with none.
-pub fn class(key: Option<u64>, bits: u64) -> Class {
-    key.filter(|_| bits != 0).map(|key| key & bits)
-}
-
-/// The classes of keys, each once, in the order of the keys.
-pub fn classes(keys: impl Iterator<Item = Option<u64>>, bits: u64) -> Vec<Class> {
-    let mut seen = HashSet::new();
-    keys.map(|key| class(key, bits)).filter(|&class| seen.insert(class)).collect()
 }
 
 /// What a class of keys gives.
@@ -129,20 +116,5 @@ impl<'a> Film<'a> {
             Ok(now) if now == *self.seen => Ok(()),
             _ => Err(Error::System("it changed while it was read".to_string())),
         }
-    }
-}
-
-#[cfg(test)]
-mod tests {
-    use super::{class, classes};
-
-    #[test]
-    fn keys_are_classes_by_the_bits_that_show() {
-        assert_eq!(class(Some(0xFF12), 0xFF), Some(0x12));
-        assert_eq!(class(None, 0xFF), None);
-        assert_eq!(class(Some(0xFF12), 0), None);
-        let keys = [Some(0x12), None, Some(0xFF12), Some(0x13)];
-        assert_eq!(classes(keys.into_iter(), 0xFF), [Some(0x12), None, Some(0x13)]);
-        assert_eq!(classes(keys.into_iter(), 0), [None]);
     }
 }

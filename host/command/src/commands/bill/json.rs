@@ -5,7 +5,6 @@ use serde_json::value::RawValue;
 
 use super::books::{Amount, Books, HeldLine, Summary, Total, Unbilled};
 use super::copies::{self, Copy, Film, Key, OtherCopy, Share};
-use super::why::Why;
 use crate::output::json::{AsText, FileName, Kind, StreamObject};
 use crate::output::{Error, Output};
 
@@ -194,7 +193,7 @@ fn film_object(film: &Film) -> FilmObject<'_> {
         title: film.title.as_deref().map(AsText),
         key_bits: hex(film.bits),
         class: film.class().map(hex),
-        why: Why::of(film).word(),
+        why: film.why().word(),
         keys: film.keys.iter().map(key_object).collect(),
         apart: film.apart.as_ref().map(apart_object),
     }
@@ -205,10 +204,9 @@ fn key_object(key: &Key) -> KeyObject {
 }
 
 fn apart_object(other: &OtherCopy) -> ApartObject {
-    let stream = if other.at.is_audio { "audio" } else { "video" };
     ApartObject {
         from_copy: other.number,
-        stream,
+        stream: other.at.stream(),
         byte: other.at.byte,
         chunk: other.at.chunk,
         both: other.both.iter().map(u64::to_string).collect(),

@@ -4,11 +4,12 @@ use std::collections::HashMap;
 use std::path::Path;
 
 use super::books::{Books, Entry, Wanted};
-use super::films::{Class, Film, Found, class, classes};
+use super::films::{Film, Found};
 use super::holdings::Holdings;
 use super::ledger::{Container, Kind, Ledger};
 use crate::output::Error;
 use crate::run::progress::{Meter, Progress};
+use crate::sharing::classes::{Class, class, classes};
 
 /// How many films were known from the ledger, and how many were read.
 #[derive(Default)]

@@ -12,11 +12,12 @@ use rusqlite::types::{Value, ValueRef};
 use rusqlite::{Connection, ErrorCode, OptionalExtension, Params, Row, params_from_iter};
 use sha2::{Digest, Sha256};
 
-use super::films::{Class, Found, Identity};
-use super::streams::Apart;
+use super::films::{Found, Identity};
 use crate::files::identity::FileId;
 use crate::output::{Error, Status, report};
 use crate::run::digests::{Stream, Streams};
+use crate::sharing::apart::Apart;
+use crate::sharing::classes::Class;
 
 /// "usml": by this a ledger is told from another program's database.
 const APPLICATION: i64 = 0x7573_6D6C;

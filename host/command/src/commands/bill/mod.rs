@@ -13,7 +13,6 @@ mod page_file;
 mod streams;
 mod table;
 mod text;
-mod why;
 
 use std::fs;
 use std::io::Write;
@@ -22,6 +21,7 @@ use std::path::PathBuf;
 use clap::Args;
 
 use crate::files::identity::FileId;
+use crate::output::numbers::{counted, grouped};
 use crate::output::text::Shown;
 use crate::output::{Error, Output, Status, report, report_error};
 use books::{Books, Summary};
@@ -84,14 +84,14 @@ impl Bill {
         let mut holdings = Holdings::open(&self.holdings)?;
         let reading = books.together(|| holdings.read(|holding| books.add(holding)))?;
         if reading.wrong > 0 {
-            let lines = text::counted(reading.wrong, "wrong line");
+            let lines = counted(reading.wrong, "wrong line");
             return Ok(report(Status::Failed, &format!("{}: {lines}; no film was read", Shown::path(&self.holdings))));
         }
         self.note(&reading);
         books.together(|| books.find_films(|film| films::identity(&holdings.file(film))))?;
         let learnt = books.together(|| learn(&books, &holdings, ledger.as_ref()))?;
         if let Some(ledger) = &self.ledger {
-            let [known, read] = [learnt.known, learnt.read].map(text::grouped);
+            let [known, read] = [learnt.known, learnt.read].map(grouped);
             report(
                 Status::Success,
                 &format!("note: {}: {known} films were known, {read} were read", Shown::path(ledger)),
@@ -109,7 +109,7 @@ impl Bill {
     /// Keys that may have been meant as decimal numbers.
     fn note(&self, reading: &holdings::Reading) {
         if reading.decimal > 0 {
-            let keys = text::counted(reading.decimal, "key");
+            let keys = counted(reading.decimal, "key");
             report(
                 Status::Success,
                 &format!(
@@ -167,7 +167,7 @@ fn warn(books: &Books, summary: &Summary) -> Result<(), Error> {
         Ok(())
     })?;
     if summary.is_incomplete() {
-        let films = text::counted(summary.unbilled_films, "film");
+        let films = counted(summary.unbilled_films, "film");
         report(Status::Refused, &format!("this bill is incomplete: {films} could not be billed"));
     }
     Ok(())

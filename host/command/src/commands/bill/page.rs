@@ -9,16 +9,13 @@ use std::path::PathBuf;
 use super::books::{Books, Summary, Total, Unbilled};
 use super::copies::{Copy, Film, Key, OtherCopy, Share};
 use super::date;
-use super::text::{counted, grouped};
-use super::why::{self, Why};
 use crate::output::Error;
 use crate::output::digits::{PLACES, digit, has};
+use crate::output::numbers::{MOST, counted, grouped};
 use crate::output::text::{Hex, Shown};
+use crate::sharing::why;
 
 const STYLE: &str = include_str!("page.css");
-
-/// Of the keys of a film, of the films of a copy and of tenants in a row no more than these are shown.
-const MOST: usize = 12;
 
 /// Writes a part of the page.
 macro_rules! put {
@@ -200,7 +197,7 @@ impl<W: Write> Page<'_, W> {
         let tenants = counted(copy.shares.len() as u64, "tenant");
         put!(self, "<section class=\"copy\">\n<h3>Copy {}{}</h3>\n", copy.number, self.titles(copy));
         put!(self, "<p class=\"meta\">{all} bytes, {pictures} of video and {sound} of audio · {tenants}</p>\n");
-        put!(self, "<p>{}</p>\n", why::sentence(copy));
+        put!(self, "<p>{}</p>\n", copy.why());
         self.films(copy)?;
         self.shares(copy)?;
         let [video, audio] = [&video.sha256, &audio.sha256].map(|digest| Hex(digest));
@@ -246,7 +243,7 @@ impl<W: Write> Page<'_, W> {
 
     fn film(&mut self, copy: &Copy, film: &Film) -> Result<(), Error> {
         let file = Escaped(Shown::path(&film.path));
-        put!(self, "<div class=\"film\"><span class=\"file\">{file}</span>\n<p>{}</p>\n", Why::of(film).sentence());
+        put!(self, "<div class=\"film\"><span class=\"file\">{file}</span>\n<p>{}</p>\n", film.why().sentence());
         // Own keys stand first on a tenant's page, and all others beside the first of them.
         let mut keys: Vec<&Key> = film.keys.iter().collect();
         keys.sort_by_key(|key| !self.is_own(key));

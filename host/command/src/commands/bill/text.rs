@@ -2,13 +2,11 @@
 
 use super::books::{Amount, Books, Summary, Total, Unbilled};
 use super::copies::{self, Copy, Film, OtherCopy};
-use super::why::{self, Why};
 use crate::output::digits::{PLACES, has, marks};
+use crate::output::numbers::{MOST, counted, grouped, tenants};
 use crate::output::text::{Hex, Shown};
 use crate::output::{Error, Output, print_to};
-
-/// Of the keys of a film and of the tenants of a key no more than these are shown; `--json` has all.
-const MOST: usize = 12;
+use crate::sharing::why;
 
 /// The whole bill: what is not billed first, then the sums, then the copies and why they are.
 pub fn write(books: &Books, summary: &Summary, output: &mut Output) -> Result<(), Error> {
@@ -83,7 +81,7 @@ fn write_copy(copy: &Copy, all: u64, output: &mut Output) -> Result<(), Error> {
         }
         print_to!(output, "\n");
     }
-    print_to!(output, "  {}\n", why::sentence(copy));
+    print_to!(output, "  {}\n", copy.why());
     copy.films.iter().try_for_each(|film| write_film(film, output))
 }
 
@@ -93,7 +91,7 @@ fn write_film(film: &Film, output: &mut Output) -> Result<(), Error> {
     if let Some(title) = &film.title {
         print_to!(output, " ({})", Shown::bytes(title));
     }
-    print_to!(output, "\n    {}\n", Why::of(film).sentence());
+    print_to!(output, "\n    {}\n", film.why().sentence());
     let counts = marks(|place| if has(film.bits, place) { '+' } else { '-' });
     print_to!(output, "    {counts}  + counts for this film, - does not\n");
     for key in film.keys.iter().take(MOST) {
@@ -119,13 +117,7 @@ fn write_apart(film: &Film, other: &OtherCopy, output: &mut Output) -> Result<()
         print_to!(output, ": the keys differ in {}\n", why::in_digits(differ));
         print_to!(output, "    {}  copy {number}\n    {differs}  ^ differs and counts", digits(Some(key)));
     }
-    let stream = if at.is_audio { "audio" } else { "video" };
-    print_to!(
-        output,
-        "\n    First byte that differs: {} of the {stream}, in the chunk at {}\n",
-        grouped(at.byte),
-        grouped(at.chunk)
-    );
+    print_to!(output, "\n    {}\n", at.sentence());
     if !both.is_empty() {
         print_to!(output, "    Held under both by {}: one key may be mistyped\n", tenants(both));
     }
@@ -134,42 +126,4 @@ fn write_apart(film: &Film, other: &OtherCopy, output: &mut Output) -> Result<()
 
 fn digits(key: Option<u64>) -> String {
     key.map_or_else(|| format!("{:PLACES$}", "as stored"), |key| format!("{key:016X}"))
-}
-
-fn tenants(numbers: &[u64]) -> String {
-    let shown: Vec<String> = numbers.iter().take(MOST).map(u64::to_string).collect();
-    let more = numbers.len().saturating_sub(MOST);
-    let more = if more > 0 { format!(" and {} more", grouped(more as u64)) } else { String::new() };
-    format!("{} {}{more}", if numbers.len() == 1 { "tenant" } else { "tenants" }, shown.join(", "))
-}
-
-/// A number of things: 1 film, 2 films.
-pub fn counted(number: u64, word: &str) -> String {
-    format!("{} {word}{}", grouped(number), if number == 1 { "" } else { "s" })
-}
-
-/// A number with a comma between thousands.
-pub fn grouped(number: u64) -> String {
-    let digits = number.to_string();
-    let mut grouped = String::with_capacity(digits.len() + digits.len() / 3);
-    for (at, digit) in digits.chars().enumerate() {
-        if at > 0 && (digits.len() - at).is_multiple_of(3) {
-            grouped.push(',');
-        }
-        grouped.push(digit);
-    }
-    grouped
-}
-
-#[cfg(test)]
-mod tests {
-    use super::{counted, grouped};
-
-    #[test]
-    fn numbers_for_people() {
-        let shown = [0, 12, 999, 1000, 123_456, 1_234_567].map(grouped);
-        assert_eq!(shown, ["0", "12", "999", "1,000", "123,456", "1,234,567"]);
-        assert_eq!(counted(1, "film"), "1 film");
-        assert_eq!(counted(0, "film"), "0 films");
-    }
 }

@@ -1,6 +1,5 @@
-//! Why the holders of a copy share it: in words, and by the sixteen digits of their keys.
+//! Why those who have a film have one copy of it: in words, and by the sixteen digits of their keys.
 
-use super::copies::{Copy, Film};
 use crate::output::digits::{PLACES, bits_that_count, has};
 
 /// Why all who hold a film under these keys have one copy of it.
@@ -10,22 +9,24 @@ pub enum Why {
     OneKey,
     /// The keys agree in every digit that can count for any film.
     KeysAgree,
-    /// The keys differ in digits that count for other films, where this one shows nothing.
-    NotShown,
     /// The film shows nothing of any key.
     NothingShown,
+    /// The keys differ in digits that count for other films, where this one shows nothing.
+    NotShown,
 }
 
 impl Why {
-    pub fn of(film: &Film) -> Why {
-        match film.keys.as_slice() {
-            [] | [_] => Why::OneKey,
-            _ if film.bits == 0 => Why::NothingShown,
-            keys => {
-                let given = || keys.iter().filter_map(|key| key.key);
-                let differ = given().zip(given().skip(1)).fold(0, |bits, (one, other)| bits | (one ^ other));
-                if differ & bits_that_count() == 0 { Why::KeysAgree } else { Why::NotShown }
-            }
+    /// Of keys that are one class for a film, which shows these bits. `None` stands for the streams as they are stored.
+    pub fn of(bits: u64, keys: &[Option<u64>]) -> Why {
+        let is_one = keys.windows(2).all(|pair| pair[0] == pair[1]);
+        if is_one {
+            Why::OneKey
+        } else if keys.iter().all(Option::is_some) && differing(keys.iter().copied()) & bits_that_count() == 0 {
+            Why::KeysAgree
+        } else if bits == 0 {
+            Why::NothingShown
+        } else {
+            Why::NotShown
         }
     }
 
@@ -56,13 +57,13 @@ impl Why {
     }
 }
 
-/// Why the films of a copy are one copy: a sentence before those about each film.
-pub fn sentence(copy: &Copy) -> String {
-    match (copy.films.len(), copy.shares.len()) {
-        (0 | 1, 1) => "No other tenant has these streams.".to_string(),
-        (0 | 1, _) => "One film serves all of them.".to_string(),
-        (films, _) => format!("{films} films, the same streams: the sizes and the digests of all of them agree."),
-    }
+/// Of a copy that one tenant has.
+pub const ALONE: &str = "No other tenant has these streams.";
+
+/// The bits in which keys that are given differ.
+pub fn differing(keys: impl Iterator<Item = Option<u64>> + Clone) -> u64 {
+    let given = keys.flatten();
+    given.clone().zip(given.skip(1)).fold(0, |bits, (one, other)| bits | (one ^ other))
 }
 
 /// How many digits have a bit of these.
@@ -101,24 +102,20 @@ pub fn in_digits(bits: u64) -> String {
 
 #[cfg(test)]
 mod tests {
-    use std::path::PathBuf;
-
-    use super::super::copies::{Film, Key};
     use super::{Why, bits_that_count, in_digits};
-
-    fn film(bits: u64, keys: &[Option<u64>]) -> Film {
-        let keys = keys.iter().map(|&key| Key { key, tenants: vec![1] }).collect();
-        Film { path: PathBuf::new(), title: None, bits, keys, apart: None }
-    }
 
     #[test]
     fn reasons() {
         let all = bits_that_count();
-        assert_eq!(Why::of(&film(all, &[Some(1)])), Why::OneKey);
-        assert_eq!(Why::of(&film(all, &[Some(1), Some(0xFF00_0000_0000_0001)])), Why::KeysAgree);
-        assert_eq!(Why::of(&film(0xFF, &[Some(1), Some(0x0100_0000_0000_0001)])), Why::KeysAgree);
-        assert_eq!(Why::of(&film(0xFF, &[Some(1), Some(0x101)])), Why::NotShown);
-        assert_eq!(Why::of(&film(0, &[None, Some(1), Some(2)])), Why::NothingShown);
+        assert_eq!(Why::of(all, &[Some(1)]), Why::OneKey);
+        assert_eq!(Why::of(all, &[Some(1), Some(1)]), Why::OneKey);
+        assert_eq!(Why::of(all, &[Some(1), Some(0xFF00_0000_0000_0001)]), Why::KeysAgree);
+        assert_eq!(Why::of(0xFF, &[Some(1), Some(0x0100_0000_0000_0001)]), Why::KeysAgree);
+        assert_eq!(Why::of(0, &[Some(1), Some(0x0100_0000_0000_0001)]), Why::KeysAgree);
+        assert_eq!(Why::of(0xFF, &[Some(1), Some(0x101)]), Why::NotShown);
+        assert_eq!(Why::of(0xFF, &[Some(1), Some(1), Some(0x101)]), Why::NotShown);
+        assert_eq!(Why::of(0, &[Some(1), Some(2)]), Why::NothingShown);
+        assert_eq!(Why::of(0, &[None, Some(1)]), Why::NothingShown);
     }
 
     #[test]

@@ -1,5 +1,8 @@
 //! `usm statement`: what tenants owe for the copies of films.
 
+mod copies;
+
+use std::borrow::Cow;
 use std::collections::BTreeMap;
 use std::path::{Path, PathBuf};
 use std::sync::{Mutex, MutexGuard, PoisonError};
@@ -8,6 +11,7 @@ use clap::{Args, ValueHint};
 use serde::Serialize;
 use usm::{Share, Tenant};
 
+use self::copies::Copies;
 use crate::options::tenants;
 use crate::output::csv::{CsvLines, SpreadsheetOption, field};
 use crate::output::json::{About, Kind};
@@ -22,6 +26,11 @@ use crate::run::workers::{self, Film, Task, Turn};
 /// streams, are divided evenly within the group; a remainder goes one byte each to the lowest tenants. A line gives a
 /// tenant, the lowest tenant of its group, and its share; after all films come the totals by tenant. Films are not
 /// compared with each other: two files that hold the same film are two copies.
+///
+/// --why says of each copy why its tenants share it: they have one key, their keys differ only in digits that never
+/// count, or only where this film shows nothing. Of a second copy of a film it says which digits tell it from the first,
+/// and the first byte at which the two differ: its stream, its place there, and the chunk that it stands in. No digit of a
+/// key is shown, only where keys differ.
 ///
 /// TENANTS is a CSV file, or - for standard input, with a line for each of up to 16 tenants: its number, which is decimal,
 /// and its key, in hex, with a comma or a semicolon between them. A first line `tenant,key` may stand above them.
@@ -38,6 +47,9 @@ pub struct Statement {
     /// With --csv, write the totals by tenant in place of the shares
     #[arg(long, requires = "csv")]
     totals: bool,
+    /// Say why tenants share a copy, and where the copies of a film part
+    #[arg(long, conflicts_with = "totals")]
+    why: bool,
     #[command(flatten)]
     spreadsheet: SpreadsheetOption,
 }
@@ -83,24 +95,30 @@ impl Task for Run<'_> {
         if self.options.totals {
             csv.line(["tenant", "bytes"].map(field))?;
         } else {
-            csv.line(["file", "tenant", "group", "bytes", "error"].map(field))?;
+            let more = if self.options.why { copies::COLUMNS.as_slice() } else { &[] };
+            csv.line(COLUMNS.iter().chain(more).map(field))?;
         }
         csv.end()
     }
 
     fn film<'a>(&'a self, film: Film<'a, '_>, turn: &Turn<'a, '_>) -> Result<(), Error> {
         let label = film.label;
-        let shares = usm::statement(film.read()?.bytes, &self.tenants)?;
+        let bytes = film.read()?.bytes;
+        let shares = usm::statement(bytes, &self.tenants)?;
+        let copies = if self.options.why { Some(Copies::of(bytes, &self.tenants, &shares)?) } else { None };
         let mut printer = turn.take();
         self.totals().add(&shares);
         if self.options.films.options.json {
-            let shares = shares.iter().map(Line::of).collect();
-            return printer.object(&Object { about: About::new("shares", label), shares });
+            let lines = shares.iter().map(Line::of).collect();
+            let why = copies.as_ref().map(Copies::object);
+            return printer.object(&Object { about: About::new("shares", label), shares: lines, why });
         }
         if self.options.csv {
-            return if self.options.totals { Ok(()) } else { self.print_lines(label, &shares, &mut printer) };
+            let copies = copies.as_ref();
+            return if self.options.totals { Ok(()) } else { self.print_lines(label, &shares, copies, &mut printer) };
         }
-        print_shares(label, &shares, &mut printer)
+        print_shares(label, &shares, &mut printer)?;
+        copies.map_or(Ok(()), |copies| copies.print(&mut printer))
     }
 
     fn failed(&self, label: &Path, error: &Error, output: &mut Output) -> Result<(), Error> {
@@ -114,7 +132,9 @@ impl Task for Run<'_> {
             Error::System(what) => what.clone(),
             Error::Output(_) => String::new(),
         };
-        csv.line([file_field(label), field(""), field(""), field(""), field(why)])?;
+        let more = if self.options.why { copies::COLUMNS.len() } else { 0 };
+        let line = [file_field(label), field(""), field(""), field(""), field(why)];
+        csv.line(line.into_iter().chain(std::iter::repeat_n(field(""), more)))?;
         csv.end()
     }
 
@@ -142,16 +162,26 @@ impl Run<'_> {
         self.totals.lock().unwrap_or_else(PoisonError::into_inner)
     }
 
-    fn print_lines(&self, label: &Path, shares: &[Share], output: &mut Output) -> Result<(), Error> {
+    fn print_lines(
+        &self,
+        label: &Path,
+        shares: &[Share],
+        copies: Option<&Copies>,
+        output: &mut Output,
+    ) -> Result<(), Error> {
         let mut csv = CsvLines::new(output, self.options.spreadsheet.spreadsheet);
         for share in shares {
-            csv.line([file_field(label), field(share.tenant), field(share.group), field(share.bytes), field("")])?;
+            let line = [file_field(label), field(share.tenant), field(share.group), field(share.bytes), field("")];
+            let why = copies.map_or(Vec::new(), |copies| copies.fields(share.group));
+            csv.line(line.into_iter().chain(why))?;
         }
         csv.end()
     }
 }
 
-fn file_field(label: &Path) -> std::borrow::Cow<'_, [u8]> {
+const COLUMNS: [&str; 5] = ["file", "tenant", "group", "bytes", "error"];
+
+fn file_field(label: &Path) -> Cow<'_, [u8]> {
     label.as_os_str().as_encoded_bytes().into()
 }
 
@@ -205,6 +235,8 @@ struct Object<'a> {
     #[serde(flatten)]
     about: About<'a>,
     shares: Vec<Line>,
+    #[serde(flatten)]
+    why: Option<copies::Object>,
 }
 
 #[derive(Serialize)]
