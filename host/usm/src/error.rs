@@ -3,7 +3,7 @@
 use std::fmt;
 use std::io;
 
-use crate::Refusal;
+use crate::{Offence, Refusal};
 
 /// Why a call that needs memory, or reads a file, has no result.
 #[derive(Debug)]
@@ -11,6 +11,8 @@ use crate::Refusal;
 pub enum Error {
     /// The film, the table or the streams are refused.
     Refused(Refusal),
+    /// The film is read, and is not plain enough for what is asked of it.
+    NotPlain(Offence),
     /// There is no memory for so many bytes.
     NoMemory(usize),
     /// The reader's own error.
@@ -31,6 +33,7 @@ impl fmt::Display for Error {
     fn fmt(&self, f: &mut fmt::Formatter) -> fmt::Result {
         match self {
             Error::Refused(refusal) => refusal.fmt(f),
+            Error::NotPlain(Offence { rule, place, .. }) => write!(f, "the chunk at {place}: {rule}"),
             Error::NoMemory(bytes) => write!(f, "no memory for {bytes} bytes"),
             Error::Io(error) => error.fmt(f),
         }
@@ -41,7 +44,7 @@ impl std::error::Error for Error {
     fn source(&self) -> Option<&(dyn std::error::Error + 'static)> {
         match self {
             Error::Refused(refusal) => Some(refusal),
-            Error::NoMemory(_) => None,
+            Error::NotPlain(_) | Error::NoMemory(_) => None,
             Error::Io(error) => Some(error),
         }
     }
@@ -64,7 +67,7 @@ impl From<Error> for io::Error {
         match error {
             Error::Io(error) => error,
             Error::NoMemory(_) => io::Error::new(io::ErrorKind::OutOfMemory, error),
-            Error::Refused(_) => io::Error::new(io::ErrorKind::InvalidData, error),
+            Error::Refused(_) | Error::NotPlain(_) => io::Error::new(io::ErrorKind::InvalidData, error),
         }
     }
 }

@@ -25,6 +25,7 @@
 //! | jump to a byte of its video | [`index()`], [`Index::seek`] |
 //! | read the tables of its header, or any @UTF table | [`header_tables`], [`table`] |
 //! | mask and unmask payloads | [`mask`], [`unmask`], [`key_table`] |
+//! | give a film another key, piece by piece | [`Reader::rekey`] |
 //! | pack streams into a film | [`pack`], [`pack_into`] |
 //! | pack streams of any length, from readers to a writer | [`pack_to`] |
 //! | move films of the old builder to films that can be read, and back | [`from_old`], [`to_old`] |
@@ -54,6 +55,7 @@ mod profile;
 mod reader;
 mod reading;
 mod refusal;
+mod rekey;
 mod salvage;
 mod sized;
 mod statement;
@@ -75,6 +77,7 @@ pub use profile::{Offence, Rule, profile};
 pub use reader::{ChunkHead, ChunkHeads, Format, Header, Mask, Part, Reader, StreamReader};
 pub use reading::{Audio, Payloads, Reading, Tables};
 pub use refusal::{Reason, Refusal};
+pub use rekey::Rekeying;
 pub use salvage::{Salvaged, salvage};
 pub use statement::{Share, Tenant, key_bits, statement};
 pub use tables::{Cell, Column, Row, Table, csv, csv_into, csv_size, table};

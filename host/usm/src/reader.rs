@@ -7,7 +7,7 @@ use crate::chunks::kind_of;
 use crate::error::make_room;
 use crate::ffi::{self, FilmAudio, FilmReply};
 use crate::window::Window;
-use crate::{AudioKind, ChunkKind, Error, Reading, Refusal, Stream, VideoKind};
+use crate::{AudioKind, ChunkKind, Error, Offence, Payloads, Reading, Refusal, Rule, Stream, VideoKind};
 
 /// A film that is read piece by piece, from anything that is [`Read`] and [`Seek`], or [`Read`] alone where its length is
 /// known. What its steps give is what the functions over a whole film give: the same chunks, the same streams, the same
@@ -30,7 +30,7 @@ use crate::{AudioKind, ChunkKind, Error, Reading, Refusal, Stream, VideoKind};
 /// # Ok::<(), Box<dyn std::error::Error>>(())
 /// ```
 pub struct Reader<R> {
-    window: Window<R>,
+    pub(crate) window: Window<R>,
     reading: Reading,
     header: Header,
     audio: FilmAudio,
@@ -115,6 +115,15 @@ impl Mask {
     /// Makes a whole payload with this mask clear, in place.
     pub fn clear(self, key: u64, payload: &mut [u8]) {
         ffi::clear(key, self.number(), payload);
+    }
+
+    /// Masks a whole clear payload, in place: the reverse of [`Mask::clear`].
+    pub fn apply(self, key: u64, payload: &mut [u8]) {
+        match self {
+            Mask::None => {}
+            Mask::Video => ffi::mask_video(key, payload),
+            Mask::Audio => ffi::mask_audio(key, payload),
+        }
     }
 
     /// The bits of a key that a payload of this mask and length shows. The largest number of a film's payloads is what
@@ -259,6 +268,23 @@ impl<R: Read> Reader<R> {
             length: reply.length,
             mask: Mask::of(reply.mask),
         }))
+    }
+
+    /// Goes to the next chunk, of a film in which payloads begin at the same places in both readings of them: a film
+    /// whose headers have the usual size.
+    pub(crate) fn plain_step(&mut self) -> Result<Option<ChunkHead>, Error> {
+        let (place, reading) = (self.next, self.reading);
+        self.reading = reading.with_payloads(Payloads::AfterHeader);
+        let after_header = self.step(true);
+        (self.reading, self.next) = (reading.with_payloads(Payloads::Original), place);
+        let original = self.step(true);
+        self.reading = reading;
+        let original = original?;
+        match after_header {
+            Ok(chunk) if chunk == original => Ok(original),
+            Ok(_) | Err(Error::Refused(_)) => Err(Error::NotPlain(Offence { rule: Rule::HeaderSize, place })),
+            Err(error) => Err(error),
+        }
     }
 
     /// The chunks that are left, one after the other.

@@ -6,7 +6,7 @@ use crate::files::targets::OutputOptions;
 use crate::options::codecs::Codecs;
 use crate::output::{Error, Status};
 use crate::run::input::make_room;
-use crate::run::rewrite::{self, Rewrite, Rewritten};
+use crate::run::rewrite::{self, RewriteWhole, Rewritten};
 use crate::run::sources::Films;
 
 /// Move films of the old builder to films that can be read
@@ -38,7 +38,7 @@ impl FromOld {
 
 struct MovingFrom(usm::Codecs);
 
-impl Rewrite for MovingFrom {
+impl RewriteWhole for MovingFrom {
     const SUFFIX: &'static str = "moved";
 
     fn make<'b>(&self, film: &'b [u8], room: &'b mut Vec<u8>) -> Result<Option<Rewritten<'b>>, Error> {

@@ -12,6 +12,7 @@ pub mod keys;
 pub mod list;
 pub mod pack;
 pub mod profile;
+pub mod rekey;
 pub mod salvage;
 pub mod statement;
 pub mod table;

@@ -4,7 +4,7 @@ use clap::Args;
 
 use crate::files::targets::OutputOptions;
 use crate::output::{Error, Status};
-use crate::run::rewrite::{self, Dropped, Rewrite, Rewritten};
+use crate::run::rewrite::{self, Dropped, RewriteWhole, Rewritten};
 use crate::run::sources::Films;
 
 /// Save what arrived of films that were cut
@@ -35,7 +35,7 @@ struct Salvaging {
     all: bool,
 }
 
-impl Rewrite for Salvaging {
+impl RewriteWhole for Salvaging {
     const SUFFIX: &'static str = "salvaged";
 
     fn make<'b>(&self, film: &'b [u8], _: &'b mut Vec<u8>) -> Result<Option<Rewritten<'b>>, Error> {

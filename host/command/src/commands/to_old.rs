@@ -5,7 +5,7 @@ use clap::Args;
 use crate::files::targets::OutputOptions;
 use crate::output::{Error, Status};
 use crate::run::input::make_room;
-use crate::run::rewrite::{self, Rewrite, Rewritten};
+use crate::run::rewrite::{self, RewriteWhole, Rewritten};
 use crate::run::sources::Films;
 
 /// Move films back to those of the old builder
@@ -30,7 +30,7 @@ impl ToOld {
 
 struct MovingBack;
 
-impl Rewrite for MovingBack {
+impl RewriteWhole for MovingBack {
     const SUFFIX: &'static str = "old";
 
     fn make<'b>(&self, film: &'b [u8], room: &'b mut Vec<u8>) -> Result<Option<Rewritten<'b>>, Error> {

@@ -9,7 +9,7 @@ use rustix::fd::FromFd;
 use rustix::fs::{AtFlags, Mode, OFlags, RenameFlags, cwd, linkat, openat, renameat_with};
 
 pub trait FileSystem {
-    /// A file of a folder that has no name, and is gone with its last handle.
+    /// A file of a folder that has no name, and is gone with its last handle. What is written can be read again.
     fn create_unnamed(&self, folder: &Path) -> io::Result<File>;
     /// A new file under a name that nothing has.
     fn create_named(&self, path: &Path) -> io::Result<File>;
@@ -44,12 +44,12 @@ impl FileSystem for Linux {
     fn create_unnamed(&self, folder: &Path) -> io::Result<File> {
         // Without /proc such a file can't get a name.
         fs::metadata("/proc/self/fd")?;
-        let flags = OFlags::TMPFILE | OFlags::WRONLY | OFlags::CLOEXEC;
+        let flags = OFlags::TMPFILE | OFlags::RDWR | OFlags::CLOEXEC;
         Ok(File::from_into_fd(openat(cwd(), folder, flags, NEW_FILE)?))
     }
 
     fn create_named(&self, path: &Path) -> io::Result<File> {
-        File::options().write(true).create_new(true).open(path)
+        File::options().read(true).write(true).create_new(true).open(path)
     }
 
     fn name(&self, file: &File, path: &Path) -> io::Result<()> {

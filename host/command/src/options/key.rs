@@ -27,16 +27,8 @@ const MOST: u64 = 4096;
 impl KeyOptions {
     /// The key, if there is one. A note on it is printed.
     pub fn key(&self) -> Result<Option<u64>, Error> {
-        if let Some(word) = &self.key {
-            let wrong = |why| Error::System(format!("--key {} is {why}", Shown::bytes(word.as_bytes())));
-            let key = typed(word).map_err(wrong)?;
-            if let Some(note) = &key.note {
-                report(Status::Success, &format!("note: {note}"));
-            }
-            return Ok(Some(key.number));
-        }
-        if let Some(path) = &self.key_file {
-            return secret(&text_of(path)?).map(Some).map_err(|why| Error::with(path, format!("it holds {why}")));
+        if let Some(key) = given("--key", self.key.as_deref(), self.key_file.as_deref())? {
+            return Ok(Some(key));
         }
         match env::var_os("USM_KEY") {
             Some(word) => {
@@ -46,6 +38,20 @@ impl KeyOptions {
             None => Ok(None),
         }
     }
+}
+
+/// The key that an option gives by itself, or in a file. A note on it is printed.
+pub fn given(option: &str, word: Option<&str>, file: Option<&Path>) -> Result<Option<u64>, Error> {
+    if let Some(word) = word {
+        let wrong = |why| Error::System(format!("{option} {} is {why}", Shown::bytes(word.as_bytes())));
+        let key = typed(word).map_err(wrong)?;
+        if let Some(note) = &key.note {
+            report(Status::Success, &format!("note: {note}"));
+        }
+        return Ok(Some(key.number));
+    }
+    let Some(path) = file else { return Ok(None) };
+    secret(&text_of(path)?).map(Some).map_err(|why| Error::with(path, format!("it holds {why}")))
 }
 
 fn text_of(path: &Path) -> Result<String, Error> {

@@ -24,6 +24,8 @@ pub enum Status {
 pub enum Error {
     /// By the rules.
     Refused(Refusal),
+    /// By what the command asks of films beyond the rules, in words.
+    Declined(String),
     /// By a file or the system, in words.
     System(String),
     /// Standard output can't be written, so that the run ends.
@@ -59,7 +61,7 @@ impl Error {
 
     pub fn status(&self) -> Status {
         match self {
-            Error::Refused(_) => Status::Refused,
+            Error::Refused(_) | Error::Declined(_) => Status::Refused,
             Error::System(_) | Error::Output(_) => Status::Failed,
         }
     }
@@ -75,6 +77,7 @@ impl From<usm::Error> for Error {
     fn from(error: usm::Error) -> Error {
         match error {
             usm::Error::Refused(refusal) => Error::Refused(refusal),
+            usm::Error::NotPlain(_) => Error::Declined(error.to_string()),
             error => Error::System(error.to_string()),
         }
     }

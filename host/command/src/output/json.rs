@@ -159,7 +159,7 @@ impl<'a> FailedFilm<'a> {
                 Some(Refused { number: refusal.number, place: refusal.place, reason: refusal.reason.to_string() }),
                 None,
             ),
-            Error::System(what) => (None, Some(what.as_str())),
+            Error::Declined(what) | Error::System(what) => (None, Some(what.as_str())),
             Error::Output(_) => (None, None),
         };
         FailedFilm { about: About::new("failure", path), refused, error }

@@ -100,6 +100,7 @@ pub fn report_error(error: Error) -> Status {
     match error {
         Error::Output(error) => failed(error),
         Error::System(what) => report(Status::Failed, &what),
+        Error::Declined(what) => report(Status::Refused, &what),
         Error::Refused(refusal) => report(Status::Refused, &refusal.to_string()),
     }
 }

@@ -79,6 +79,12 @@ const PIPE_PIECE: u64 = 1 << 16;
 const GROWTH: usize = 16 << 20;
 
 impl Input {
+    /// A file that this run has written, of so many bytes.
+    pub fn of(file: &File, length: u64) -> Result<Input, Error> {
+        let file = file.try_clone().map_err(Error::io)?;
+        Ok(Input::File { file, start: 0, length, place: 0 })
+    }
+
     /// The film, to be read piece by piece. What a pipe gives is in memory then.
     pub fn reader(&mut self, reading: Reading, meter: &Meter) -> Result<Reader<&mut Input>, Error> {
         if let Input::Pipe(_) = self {
@@ -87,6 +93,15 @@ impl Input {
             *self = Input::Memory(Cursor::new(bytes));
         }
         Ok(Reader::new(self, reading)?)
+    }
+
+    /// Back to the film's first byte. A pipe has given all it has, and stays where it is.
+    pub fn restart(&mut self) {
+        match self {
+            Input::File { start, place, .. } => *place = *start,
+            Input::Pipe(_) => {}
+            Input::Memory(bytes) => bytes.set_position(0),
+        }
     }
 
     /// All its bytes, in the place of what was in a buffer.

@@ -23,15 +23,16 @@ pub struct Outcomes {
 impl Outcomes {
     pub fn add(&mut self, label: &Path, error: &Error) {
         self.labels.push(label.to_path_buf());
-        let Error::Refused(refusal) = error else {
-            self.failed += 1;
-            return;
-        };
-        self.refused += 1;
-        match refusal.reason {
-            Reason::RanOut if refusal.place > 0 => self.cut += 1,
-            Reason::NoTable if refusal.place == 0 => self.without_table += 1,
-            _ => {}
+        match error.status() {
+            Status::Refused => self.refused += 1,
+            _ => self.failed += 1,
+        }
+        if let Error::Refused(refusal) = error {
+            match refusal.reason {
+                Reason::RanOut if refusal.place > 0 => self.cut += 1,
+                Reason::NoTable if refusal.place == 0 => self.without_table += 1,
+                _ => {}
+            }
         }
     }
 

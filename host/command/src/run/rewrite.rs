@@ -1,11 +1,14 @@
-//! Films made of films: what `salvage`, `from-old` and `to-old` share.
+//! Films made of films: what `salvage`, `from-old`, `to-old` and `rekey` share.
 
+use std::fs::File;
+use std::io::Write;
 use std::path::{Path, PathBuf};
 
 use serde::Serialize;
 use usm::Reason;
 
 use crate::files::names::stem;
+use crate::files::staged::StagedFiles;
 use crate::files::targets::{Claim, OutputOptions, Targets};
 use crate::output::json::{About, AsHex, AsText};
 use crate::output::text::Shown;
@@ -19,6 +22,41 @@ pub trait Rewrite: Sync {
     /// passed over.
     const SUFFIX: &'static str;
 
+    /// Writes the new film to a file that it begins, and that gets its name afterwards; `None` where there is nothing to
+    /// write.
+    fn write(&self, film: Film, new: NewFilm) -> Result<Option<Written>, Error>;
+}
+
+/// A film to be written.
+pub struct NewFilm<'s> {
+    target: &'s Path,
+    staged: &'s mut StagedFiles,
+}
+
+impl<'s> NewFilm<'s> {
+    /// Begins the film's file.
+    pub fn create(self) -> Result<&'s mut File, Error> {
+        self.staged.create(self.target.to_path_buf())
+    }
+
+    /// What its file is to be called.
+    pub fn target(&self) -> &'s Path {
+        self.target
+    }
+}
+
+/// A film that is written.
+pub struct Written {
+    pub size: usize,
+    /// What was dropped of the other, where something can be.
+    pub dropped: Option<Dropped>,
+}
+
+/// A way to make a film of one that is in memory.
+pub trait RewriteWhole: Sync {
+    /// As that of [`Rewrite`].
+    const SUFFIX: &'static str;
+
     /// The new film, which may lie in the room that is lent; `None` where there is nothing to write.
     fn make<'b>(&self, film: &'b [u8], room: &'b mut Vec<u8>) -> Result<Option<Rewritten<'b>>, Error>;
 }
@@ -28,6 +66,19 @@ pub struct Rewritten<'b> {
     pub film: &'b [u8],
     /// What was dropped of the other, where something can be.
     pub dropped: Option<Dropped>,
+}
+
+impl<R: RewriteWhole> Rewrite for R {
+    const SUFFIX: &'static str = R::SUFFIX;
+
+    fn write(&self, film: Film, new: NewFilm) -> Result<Option<Written>, Error> {
+        let (meter, target) = (film.meter, new.target());
+        let WholeFilm { bytes, made } = film.read()?;
+        let Some(Rewritten { film, dropped }) = self.make(bytes, made)? else { return Ok(None) };
+        new.create()?.write_all(film).map_err(|error| Error::with(target, error))?;
+        meter.advance(film.len() as u64);
+        Ok(Some(Written { size: film.len(), dropped }))
+    }
 }
 
 #[derive(Clone, Copy)]
@@ -71,23 +122,20 @@ impl<R: Rewrite> Task for Run<R> {
     const STEPS: u64 = 2;
 
     fn film<'a>(&'a self, film: Film<'a, '_>, turn: &Turn<'a, '_>) -> Result<(), Error> {
-        let (label, meter) = (film.label, film.meter);
+        let label = film.label;
         let target = self.target(label);
         if turn.decide(|| self.targets.claim(label, std::slice::from_ref(&target)))? == Claim::Skip {
             self.print_in_turn(label, Outcome::Skipped(THERE), turn);
             return Ok(());
         }
-        let WholeFilm { bytes, made } = film.read()?;
-        let Some(rewritten) = self.rewrite.make(bytes, made)? else {
+        let mut staged = self.targets.staged();
+        let new = NewFilm { target: &target, staged: &mut staged };
+        let Some(Written { size, dropped }) = self.rewrite.write(film, new)? else {
             self.print_in_turn(label, Outcome::Skipped(WHOLE), turn);
             return Ok(());
         };
-        let mut staged = self.targets.staged();
-        staged.write(target.clone(), rewritten.film)?;
-        meter.advance(rewritten.film.len() as u64);
         self.targets.place(label, staged)?;
-        let outcome = Outcome::Written { target, size: rewritten.film.len(), dropped: rewritten.dropped };
-        self.print_in_turn(label, outcome, turn);
+        self.print_in_turn(label, Outcome::Written { target, size, dropped }, turn);
         Ok(())
     }
 }

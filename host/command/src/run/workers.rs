@@ -318,7 +318,7 @@ impl<'a> Printer<'a, '_> {
         self.shared.outcomes.add(label, error);
         match error {
             Error::Refused(refusal) => self.note(label, &refusal.to_string()),
-            Error::System(what) => self.note(label, what),
+            Error::Declined(what) | Error::System(what) => self.note(label, what),
             Error::Output(_) => {}
         }
     }

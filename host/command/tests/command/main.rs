@@ -23,6 +23,7 @@ mod operators;
 mod output;
 mod pack;
 mod profile;
+mod rekey;
 mod salvage;
 mod schema;
 mod statement;

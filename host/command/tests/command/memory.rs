@@ -31,6 +31,7 @@ fn films_that_are_read_piece_by_piece_take_a_window() {
         "list --json large.usm",
         "keys 1 2 large.usm",
         "keys 1 1 large.usm",
+        "rekey --from 1 --to 2 large.usm",
     ] {
         assert_eq!(with_memory(&folder, WINDOW, words), (0, String::new()), "{words}");
     }

@@ -1,7 +1,7 @@
 //! What is learnt of a film: which bits of a key it shows, and its streams under each class of keys.
 
 use std::fs;
-use std::io::{Read, Seek};
+use std::io::Read;
 use std::os::unix::fs::MetadataExt;
 use std::path::Path;
 
@@ -77,7 +77,7 @@ impl<'a> Film<'a> {
     /// The SHA-256 of the film as it is.
     pub fn digest(&mut self, meter: &Meter) -> Result<[u8; 32], Error> {
         let mut sha256 = Sha256::new();
-        self.input.rewind().map_err(Error::io)?;
+        self.input.restart();
         let mut piece = vec![0; PIECE];
         let mut place = 0;
         loop {
@@ -105,7 +105,7 @@ impl<'a> Film<'a> {
         meter: &Meter,
         read: impl FnOnce(&mut Reader<&mut Input>) -> Result<T, Error>,
     ) -> Result<T, Error> {
-        self.input.rewind().map_err(Error::io)?;
+        self.input.restart();
         let done = self.input.reader(Reading::default(), meter).and_then(|mut reader| read(&mut reader));
         self.check_unchanged()?;
         done

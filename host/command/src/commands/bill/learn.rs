@@ -33,7 +33,7 @@ pub fn learn(books: &Books, holdings: &Holdings, ledger: Option<&Ledger>) -> Res
         match learnt {
             Ok(()) => {}
             Err(Error::Refused(refusal)) => books.leave_out(wanted.file, &refusal.to_string())?,
-            Err(Error::System(why)) => books.leave_out(wanted.file, &why)?,
+            Err(Error::Declined(why) | Error::System(why)) => books.leave_out(wanted.file, &why)?,
             Err(error) => return Err(error),
         }
     }

@@ -129,7 +129,7 @@ impl Task for Run<'_> {
         let mut csv = CsvLines::new(output, self.options.spreadsheet.spreadsheet);
         let why = match error {
             Error::Refused(refusal) => refusal.to_string(),
-            Error::System(what) => what.clone(),
+            Error::Declined(what) | Error::System(what) => what.clone(),
             Error::Output(_) => String::new(),
         };
         let more = if self.options.why { copies::COLUMNS.len() } else { 0 };
