@@ -38,7 +38,10 @@ Errors go to standard error; that of a film has the number of the refusal, the p
 enum Command {
     Info(info::Info),
     Keys(keys::Keys),
+    Clip(clip::Clip),
     List(list::List),
+    Index(index::IndexFilm),
+    Seek(seek::Seek),
     Table(table::Table),
     Extract(extract::Extract),
     Pack(pack::Pack),
@@ -67,7 +70,10 @@ fn run(command: Command) -> Status {
     match command {
         Command::Info(info) => info.run(),
         Command::Keys(keys) => keys.run(),
+        Command::Clip(clip) => clip.run(),
         Command::List(list) => list.run(),
+        Command::Index(index) => index.run(),
+        Command::Seek(seek) => seek.run(),
         Command::Table(table) => table.run(),
         Command::Extract(extract) => extract.run(),
         Command::Pack(pack) => pack.run(),

@@ -166,7 +166,7 @@ pub struct Share {
 }
 
 #[repr(C)]
-#[derive(Clone, Copy, Debug)]
+#[derive(Clone, Copy, PartialEq, Eq, Debug)]
 pub struct IndexEntry {
     pub place: u64,
     pub chunk: u64,

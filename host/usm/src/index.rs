@@ -1,9 +1,13 @@
 //! An index of a film's video: where each byte of the stream stands in the film.
 
-use crate::{Error, ffi, sized};
+use std::io::{Read, Seek};
 
-/// Where the video payloads of a film stand, 24 bytes for each. It does not need the film any more.
-#[derive(Clone, Debug)]
+use crate::error::make_room;
+use crate::{ChunkKind, Error, Reader, ffi, sized};
+
+/// Where the video payloads of a film stand, 24 bytes for each. It does not need the film any more. Two indexes of one
+/// film are equal.
+#[derive(Clone, PartialEq, Eq, Debug)]
 pub struct Index {
     entries: Vec<ffi::IndexEntry>,
 }
@@ -18,6 +22,16 @@ pub struct Entry {
     pub chunk: usize,
     /// The bytes of the payload, which may be none.
     pub length: usize,
+}
+
+impl Entry {
+    pub fn new(place: usize, chunk: usize, length: usize) -> Entry {
+        Entry { place, chunk, length }
+    }
+
+    fn for_c(self) -> ffi::IndexEntry {
+        ffi::IndexEntry { place: self.place as u64, chunk: self.chunk as u64, length: self.length as u64 }
+    }
 }
 
 /// Where a byte of the video stream stands.
@@ -44,7 +58,44 @@ pub fn index(film: &[u8]) -> Result<Index, Error> {
     sized::listed(|entries| ffi::index(film, entries)).map(|entries| Index { entries })
 }
 
+impl<R: Read + Seek> Reader<R> {
+    /// The index of the film's video, from its first chunk on, by steps: the same as that of [`index()`] where audio is not
+    /// taken and payloads are read as the original reads them.
+    ///
+    /// ```
+    /// use usm::{Audio, Reader, Reading};
+    ///
+    /// let film = std::fs::File::open("tests/song.usm")?;
+    /// let mut reader = Reader::new(film, Reading::default().with_audio(Audio::None))?;
+    /// assert_eq!(reader.index()?, usm::index(&std::fs::read("tests/song.usm")?)?);
+    /// # Ok::<(), Box<dyn std::error::Error>>(())
+    /// ```
+    pub fn index(&mut self) -> Result<Index, Error> {
+        self.rewind()?;
+        let (mut entries, mut place) = (Vec::new(), 0);
+        while let Some(chunk) = self.next_chunk()? {
+            if chunk.kind == ChunkKind::Video {
+                if entries.len() == entries.capacity() {
+                    let count = entries.len();
+                    make_room(&mut entries, (2 * count).max(64))?;
+                }
+                entries.push(Entry::new(place, chunk.start, chunk.length).for_c());
+                place += chunk.length;
+            }
+        }
+        Ok(Index { entries })
+    }
+}
+
 impl Index {
+    /// An index that was kept somewhere: of so many entries. Whatever these are, every byte has an answer.
+    pub fn from_entries(count: usize, entries: impl Iterator<Item = Entry>) -> Result<Index, Error> {
+        let mut kept = Vec::new();
+        make_room(&mut kept, count)?;
+        kept.extend(entries.take(count).map(Entry::for_c));
+        Ok(Index { entries: kept })
+    }
+
     /// Where a byte of the video stream stands, counted from 0; `None` past its end. It is the byte that
     /// [`extract`](crate::extract) gives there without a key (proved), and found by halving: fewer than 2^k payloads
     /// take k steps (proved).
@@ -68,7 +119,7 @@ impl Index {
     }
 
     /// The video payloads in their order, empty ones too.
-    pub fn entries(&self) -> impl ExactSizeIterator<Item = Entry> + '_ {
+    pub fn entries(&self) -> impl ExactSizeIterator<Item = Entry> + DoubleEndedIterator + '_ {
         self.entries.iter().map(|entry| Entry {
             place: entry.place as usize,
             chunk: entry.chunk as usize,

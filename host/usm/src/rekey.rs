@@ -2,8 +2,8 @@
 
 use std::io::{Read, Seek};
 
-use crate::reader::{ChunkHead, Mask, Reader};
 use crate::Error;
+use crate::reader::{ChunkHead, Mask, Reader};
 
 /// A film under another key, piece by piece: what [`Reader::rekey`] gives.
 pub struct Rekeying<'r, R> {

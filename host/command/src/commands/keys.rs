@@ -7,7 +7,7 @@ use serde::Serialize;
 use usm::{ChunkKind, Reader, Reading};
 
 use crate::options::key::{self, Key};
-use crate::output::digits::{PLACES, bits_that_count, digit, has, marks};
+use crate::output::digits::{bits_that_count, has, marks, places};
 use crate::output::json::{About, Kind};
 use crate::output::text::Shown;
 use crate::output::{Error, Status};
@@ -116,10 +116,6 @@ struct Answer {
 }
 
 impl Answer {
-    fn has_other_digit(&self, place: usize) -> bool {
-        digit(self.first, place) != digit(self.second, place)
-    }
-
     fn same_streams(&self) -> bool {
         usm::key_table(self.first) == usm::key_table(self.second)
     }
@@ -145,14 +141,14 @@ impl Answer {
             second: format!("{:016X}", self.second),
             same_key: self.first == self.second,
             same_streams: self.same_streams(),
-            differing_digits: (0..PLACES).filter(|&place| self.has_other_digit(place)).collect(),
-            counting_digits: (0..PLACES).filter(|&place| has(bits_that_count(), place)).collect(),
+            differing_digits: places(self.first ^ self.second),
+            counting_digits: places(bits_that_count()),
         }
     }
 
     fn print(&self, output: &mut Output) -> Result<(), Error> {
         let counts = marks(|place| if has(bits_that_count(), place) { '+' } else { '-' });
-        let differs = marks(|place| if self.has_other_digit(place) { '^' } else { '.' });
+        let differs = marks(|place| if has(self.first ^ self.second, place) { '^' } else { '.' });
         print_to!(output, "first key   {:016X}\n", self.first);
         print_to!(output, "second key  {:016X}\n", self.second);
         print_to!(output, "counts      {counts}  + can touch a picture and ADX sound, - never does\n");

@@ -18,6 +18,11 @@ pub fn has(bits: u64, place: usize) -> bool {
     digit(bits, place) != 0
 }
 
+/// The places of digits that have a bit of these, from the left, from 0.
+pub fn places(bits: u64) -> Vec<usize> {
+    (0..PLACES).filter(|&place| has(bits, place)).collect()
+}
+
 /// Sixteen marks, one for each digit.
 pub fn marks(mark: impl Fn(usize) -> char) -> String {
     (0..PLACES).map(mark).collect()

@@ -1,5 +1,7 @@
 //! The sizes and digests of a film's two streams.
 
+use std::io::{ErrorKind, Read};
+
 use sha2::{Digest, Sha256};
 use usm::Reader;
 
@@ -48,6 +50,29 @@ impl Hashing {
     pub fn end(self) -> Streams {
         let end = |hashed: Hashed| Stream { bytes: hashed.bytes, sha256: hashed.sha256.finalize().into() };
         Streams { video: end(self.video), audio: end(self.audio) }
+    }
+}
+
+/// So many bytes of a film are hashed at once.
+const PIECE: usize = 256 << 10;
+
+/// The SHA-256 of a film as it is, from its first byte on.
+pub fn of_film(input: &mut Input, meter: &Meter) -> Result<[u8; 32], Error> {
+    input.restart();
+    let mut sha256 = Sha256::new();
+    let mut piece = vec![0; PIECE];
+    let mut place = 0;
+    loop {
+        match input.read(&mut piece) {
+            Ok(0) => return Ok(sha256.finalize().into()),
+            Ok(count) => {
+                sha256.update(&piece[..count]);
+                place += count;
+                meter.reach(place);
+            }
+            Err(error) if error.kind() == ErrorKind::Interrupted => {}
+            Err(error) => return Err(Error::io(error)),
+        }
     }
 }
 

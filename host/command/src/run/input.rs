@@ -10,6 +10,7 @@ use rustix::fd::FromFd;
 use rustix::fs::{Mode, OFlags, ResolveFlags, cwd, openat, openat2};
 use usm::{Reader, Reading, Refusal};
 
+use crate::files::identity::Identity;
 use crate::output::Error;
 use crate::run::progress::Meter;
 use crate::run::sources::{Origin, Source};
@@ -85,14 +86,37 @@ impl Input {
         Ok(Input::File { file, start: 0, length, place: 0 })
     }
 
+    /// The film's length, where it is known: of a pipe once it is read.
+    pub fn length(&self) -> u64 {
+        match self {
+            Input::File { length, .. } => *length,
+            Input::Pipe(_) => 0,
+            Input::Memory(bytes) => bytes.get_ref().len() as u64,
+        }
+    }
+
+    /// Which file it is now, and when it was changed; `None` of what is no file.
+    pub fn identity(&self) -> Result<Option<Identity>, Error> {
+        match self {
+            Input::File { file, .. } => file.metadata().map(|file| Some(Identity::of(&file))).map_err(Error::io),
+            _ => Ok(None),
+        }
+    }
+
     /// The film, to be read piece by piece. What a pipe gives is in memory then.
     pub fn reader(&mut self, reading: Reading, meter: &Meter) -> Result<Reader<&mut Input>, Error> {
+        self.hold(meter)?;
+        Ok(Reader::new(self, reading)?)
+    }
+
+    /// Has what a pipe gives in memory.
+    pub fn hold(&mut self, meter: &Meter) -> Result<(), Error> {
         if let Input::Pipe(_) = self {
             let mut bytes = Vec::new();
             self.read_all(&mut bytes, meter)?;
             *self = Input::Memory(Cursor::new(bytes));
         }
-        Ok(Reader::new(self, reading)?)
+        Ok(())
     }
 
     /// Back to the film's first byte. A pipe has given all it has, and stays where it is.

@@ -28,7 +28,7 @@ pub struct Films {
 }
 
 /// How a run goes through its films.
-#[derive(Args)]
+#[derive(Args, Default)]
 pub struct RunOptions {
     /// Work on N films at once; without a number, on as many as there are processors
     #[arg(short, value_name = "N", num_args = 0..=1, require_equals = true, default_missing_value = "0")]

@@ -1,6 +1,6 @@
 //! Why those who have a film have one copy of it: in words, and by the sixteen digits of their keys.
 
-use crate::output::digits::{PLACES, bits_that_count, has};
+use crate::output::digits::{PLACES, bits_that_count, places};
 
 /// Why all who hold a film under these keys have one copy of it.
 #[derive(Clone, Copy, PartialEq, Eq, Debug)]
@@ -68,7 +68,7 @@ pub fn differing(keys: impl Iterator<Item = Option<u64>> + Clone) -> u64 {
 
 /// How many digits have a bit of these.
 pub fn how_many(bits: u64) -> usize {
-    (0..PLACES).filter(|&place| has(bits, place)).count()
+    places(bits).len()
 }
 
 const ORDINALS: [&str; PLACES] = [
@@ -92,7 +92,7 @@ const ORDINALS: [&str; PLACES] = [
 
 /// The digits that have a bit of these, in words: the first, the second and the seventh digit.
 pub fn in_digits(bits: u64) -> String {
-    let names: Vec<&str> = (0..PLACES).filter(|&place| has(bits, place)).map(|place| ORDINALS[place]).collect();
+    let names: Vec<&str> = places(bits).into_iter().map(|place| ORDINALS[place]).collect();
     match names.as_slice() {
         [] => "no digit".to_string(),
         [one] => format!("the {one} digit"),

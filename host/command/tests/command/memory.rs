@@ -32,6 +32,9 @@ fn films_that_are_read_piece_by_piece_take_a_window() {
         "keys 1 2 large.usm",
         "keys 1 1 large.usm",
         "rekey --from 1 --to 2 large.usm",
+        "index large.usm",
+        "seek large.usm 1000",
+        "seek large.usm 1000 --index large.usm-index --check",
     ] {
         assert_eq!(with_memory(&folder, WINDOW, words), (0, String::new()), "{words}");
     }

@@ -43,7 +43,9 @@ fn folders_pipes_and_json() {
     assert_eq!(folder.read("out/film.usm"), folder.read("song.rekeyed.usm"));
     // From where standard input stands.
     folder.write("padded", &[&[0; 100][..], &example("song.usm")].concat());
-    let line = format!("(dd bs=1 skip=100 count=0 status=none; $USM rekey -q --force --from {KEY} --to {OTHER} - -o out) < padded");
+    let line = format!(
+        "(dd bs=1 skip=100 count=0 status=none; $USM rekey -q --force --from {KEY} --to {OTHER} - -o out) < padded"
+    );
     folder.shell(&line).expect(0, "", "");
     assert_eq!(folder.read("out/film.usm"), folder.read("song.rekeyed.usm"));
 }
@@ -74,7 +76,8 @@ fn a_film_with_other_headers_is_left_alone() {
     film.chunk(b"@SFV", 0, 0, &[7; 0x300]);
     film.bytes[start + 9] = 0x20;
     folder.write("long.usm", &film.bytes);
-    let run = folder.usm(&["rekey", "--summary", "--from", KEY, "--to", OTHER, "long.usm", "cut.usm", "none.usm", "f.usm"]);
+    let run =
+        folder.usm(&["rekey", "--summary", "--from", KEY, "--to", OTHER, "long.usm", "cut.usm", "none.usm", "f.usm"]);
     assert_eq!(run.status, 2);
     assert_eq!(run.out, "f.usm\nwritten  448 bytes: ./f.rekeyed.usm\n", "the others go on");
     let err: Vec<&str> = run.err.lines().collect();

@@ -10,9 +10,8 @@ use std::path::{Path, PathBuf};
 use rusqlite::{Connection, OptionalExtension, Params, Row, params};
 
 use super::copies::{Copy, Film, Key, OtherCopy, Share};
-use super::films::Identity;
 use super::holdings::Holding;
-use crate::files::identity::FileId;
+use crate::files::identity::{FileId, Identity};
 use crate::output::Error;
 use crate::run::digests::{Stream, Streams};
 use crate::sharing::apart::Apart;

@@ -1,31 +1,19 @@
 //! What is learnt of a film: which bits of a key it shows, and its streams under each class of keys.
 
 use std::fs;
-use std::io::Read;
-use std::os::unix::fs::MetadataExt;
 use std::path::Path;
 
-use sha2::{Digest, Sha256};
 use usm::{Reader, Reading};
 
 use super::streams;
-use crate::files::identity::FileId;
+use crate::files::identity::Identity;
 use crate::output::Error;
-use crate::run::digests::Streams;
+use crate::run::digests::{self, Streams};
 use crate::run::input::Input;
 use crate::run::progress::Meter;
 use crate::run::sources::Source;
 use crate::sharing::apart::Apart;
 use crate::sharing::classes::Class;
-
-/// Which file a film is, and when it was changed.
-#[derive(Clone, Copy, PartialEq, Eq, Debug)]
-pub struct Identity {
-    pub id: FileId,
-    pub size: u64,
-    /// In nanoseconds.
-    pub mtime: i64,
-}
 
 /// The identity of a film. What is no regular file is not even opened: a pipe would be waited for.
 pub fn identity(path: &Path) -> Result<Identity, String> {
@@ -33,8 +21,7 @@ pub fn identity(path: &Path) -> Result<Identity, String> {
     if !file.is_file() {
         return Err("it is no regular file".to_string());
     }
-    let mtime = file.mtime().saturating_mul(1_000_000_000).saturating_add(file.mtime_nsec());
-    Ok(Identity { id: FileId::of(&file), size: file.len(), mtime })
+    Ok(Identity::of(&file))
 }
 
 /// What a class of keys gives.
@@ -45,9 +32,6 @@ pub struct Found {
     /// Where these streams part from those of the first class.
     pub apart: Option<Apart>,
 }
-
-/// So many bytes of a film are hashed at once.
-const PIECE: usize = 256 << 10;
 
 /// A film that is open. What is learnt of it counts only where its file is the same afterwards.
 pub struct Film<'a> {
@@ -76,22 +60,9 @@ impl<'a> Film<'a> {
 
     /// The SHA-256 of the film as it is.
     pub fn digest(&mut self, meter: &Meter) -> Result<[u8; 32], Error> {
-        let mut sha256 = Sha256::new();
-        self.input.restart();
-        let mut piece = vec![0; PIECE];
-        let mut place = 0;
-        loop {
-            match self.input.read(&mut piece).map_err(Error::io)? {
-                0 => break,
-                count => {
-                    sha256.update(&piece[..count]);
-                    place += count;
-                    meter.reach(place);
-                }
-            }
-        }
+        let digest = digests::of_film(&mut self.input, meter)?;
         self.check_unchanged()?;
-        Ok(sha256.finalize().into())
+        Ok(digest)
     }
 
     /// The streams under each class, and where they part from those of the first.

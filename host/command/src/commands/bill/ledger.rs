@@ -6,14 +6,14 @@
 use std::fs;
 use std::path::{Path, PathBuf};
 use std::thread::sleep;
-use std::time::{Duration, SystemTime, UNIX_EPOCH};
+use std::time::Duration;
 
 use rusqlite::types::{Value, ValueRef};
 use rusqlite::{Connection, ErrorCode, OptionalExtension, Params, Row, params_from_iter};
 use sha2::{Digest, Sha256};
 
-use super::films::{Found, Identity};
-use crate::files::identity::FileId;
+use super::films::Found;
+use crate::files::identity::{FileId, Identity};
 use crate::output::{Error, Status, report};
 use crate::run::digests::{Stream, Streams};
 use crate::sharing::apart::Apart;
@@ -36,9 +36,6 @@ const TABLES: &str = "
         PRIMARY KEY (container, given, class, other_given, other_class)) WITHOUT ROWID;";
 
 const NAMES: [&str; 4] = ["film", "container", "streams", "apart"];
-
-/// A film that was changed so recently may change again without a new time.
-const RECENT: Duration = Duration::from_secs(2);
 
 /// The SHA-256 of a whole film.
 pub type Container = [u8; 32];
@@ -175,7 +172,7 @@ impl Ledger {
 
     /// Keeps which film a file is, unless the file is so new that its time may not tell.
     pub fn keep_film(&self, path: &Path, identity: &Identity, container: &Container) -> Result<(), Error> {
-        if is_recent(identity.mtime) {
+        if identity.is_recent() {
             return Ok(());
         }
         let Identity { id: FileId { inode, .. }, size, mtime } = *identity;
@@ -279,11 +276,6 @@ fn wait(looks: i32) -> bool {
     }
     sleep(PAUSE);
     true
-}
-
-fn is_recent(mtime: i64) -> bool {
-    let now = SystemTime::now().duration_since(UNIX_EPOCH).unwrap_or_default();
-    i128::from(mtime) + RECENT.as_nanos() as i128 > now.as_nanos() as i128
 }
 
 /// Two classes, always in the same order.

@@ -40,8 +40,7 @@ struct ClassLearning {
 
 impl Learning {
     fn new(classes: &[Class]) -> Learning {
-        let learning =
-            |&class: &Class| ClassLearning { class, hashing: Hashing::default(), apart: Streams::default() };
+        let learning = |&class: &Class| ClassLearning { class, hashing: Hashing::default(), apart: Streams::default() };
         Learning {
             classes: classes.iter().map(learning).collect(),
             passed: Streams::default(),

@@ -6,7 +6,7 @@ use serde::Serialize;
 use usm::{Reading, Share, Tenant};
 
 use crate::output::csv::field;
-use crate::output::digits::{PLACES, has, marks};
+use crate::output::digits::{has, marks, places};
 use crate::output::numbers::{grouped, tenants};
 use crate::output::{Error, Output, print_to};
 use crate::sharing::apart::{self, Apart};
@@ -37,12 +37,9 @@ impl Copies {
             let key = tenants.iter().find(|tenant| tenant.number == share.tenant).map(|tenant| tenant.key);
             match copies.iter_mut().find(|copy| copy.group() == share.group) {
                 Some(copy) => copy.add(share, key),
-                None => copies.push(Copy {
-                    tenants: vec![share.tenant],
-                    keys: vec![key],
-                    bytes: share.bytes,
-                    apart: None,
-                }),
+                None => {
+                    copies.push(Copy { tenants: vec![share.tenant], keys: vec![key], bytes: share.bytes, apart: None })
+                }
             }
         }
         if let Some((first, others)) = copies.split_first_mut() {
@@ -81,7 +78,7 @@ impl Copies {
         let apart = |copy: &Copy| {
             copy.apart.map(|apart| ApartObject {
                 from_group: lowest.to_string(),
-                differing_digits: digits_of(self.apart_bits(copy)),
+                differing_digits: places(self.apart_bits(copy)),
                 stream: apart.stream(),
                 byte: apart.byte,
                 chunk: apart.chunk,
@@ -150,10 +147,6 @@ impl Copy {
 /// A mark for each digit with a bit of these.
 fn marked(bits: u64) -> String {
     marks(|place| if has(bits, place) { '^' } else { '.' })
-}
-
-fn digits_of(bits: u64) -> Vec<usize> {
-    (0..PLACES).filter(|&place| has(bits, place)).collect()
 }
 
 /// What `--why` adds to the object of a film.
