@@ -1,6 +1,28 @@
-//! `-j N` as people type it.
+//! `-j N`, and how people type it.
 
 use std::ffi::OsString;
+use std::thread;
+
+use clap::Args;
+
+/// What every command takes that can work on several films at once.
+#[derive(Args, Default)]
+pub struct JobsOption {
+    /// Work on N films at once; without a number, on as many as there are processors
+    #[arg(short, value_name = "N", num_args = 0..=1, require_equals = true, default_missing_value = "0")]
+    jobs: Option<usize>,
+}
+
+impl JobsOption {
+    /// How many films are worked on at once.
+    pub fn jobs(&self) -> usize {
+        match self.jobs {
+            None => 1,
+            Some(0) => thread::available_parallelism().map_or(1, usize::from),
+            Some(jobs) => jobs,
+        }
+    }
+}
 
 /// The words of a command line with `-j N` and `-jN` as `-j=N`: a number after `-j` is its own, any other word is not.
 pub fn joined(words: impl Iterator<Item = OsString>) -> Vec<OsString> {

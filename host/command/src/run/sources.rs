@@ -10,6 +10,7 @@ use clap::{Args, ValueHint};
 use walkdir::{DirEntry, WalkDir};
 
 use crate::files::identity::FileId;
+use crate::options::jobs::JobsOption;
 use crate::output::text::Shown;
 use crate::output::{Error, note};
 use crate::run::lists;
@@ -30,9 +31,8 @@ pub struct Films {
 /// How a run goes through its films.
 #[derive(Args, Default)]
 pub struct RunOptions {
-    /// Work on N films at once; without a number, on as many as there are processors
-    #[arg(short, value_name = "N", num_args = 0..=1, require_equals = true, default_missing_value = "0")]
-    pub jobs: Option<usize>,
+    #[command(flatten)]
+    pub jobs: JobsOption,
     /// Write a JSON object for each film, on a line of its own
     #[arg(long)]
     pub json: bool,

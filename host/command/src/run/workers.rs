@@ -103,7 +103,7 @@ pub fn run(task: &impl Task, sources: &[Source], options: &RunOptions) -> Status
         }
     };
     thread::scope(|scope| {
-        for _ in 1..options.workers().min(sources.len()) {
+        for _ in 1..options.jobs.jobs().min(sources.len()) {
             // Where there is no thread to be had, those that there are do the work.
             thread::Builder::new().spawn_scoped(scope, work).ok();
         }
@@ -119,17 +119,6 @@ pub fn run(task: &impl Task, sources: &[Source], options: &RunOptions) -> Status
     match ended.and_then(|()| outcomes.report(sources, options)) {
         Ok(()) => status,
         Err(error) => status.max(output::report_error(error)),
-    }
-}
-
-impl RunOptions {
-    /// How many work at once.
-    fn workers(&self) -> usize {
-        match self.jobs {
-            None => 1,
-            Some(0) => thread::available_parallelism().map_or(1, usize::from),
-            Some(jobs) => jobs,
-        }
     }
 }
 

@@ -164,18 +164,27 @@ fn damage_never_makes_a_wrong_bill() {
 /// A run that is killed loses nothing that was done, and counts nothing twice.
 #[test]
 fn killed_at_random() {
+    kill_at_random(&WORDS, 100);
+}
+
+#[test]
+fn killed_at_random_with_several_films_at_once() {
+    kill_at_random(&[&WORDS[..], &["-j", "3"]].concat(), 50);
+}
+
+fn kill_at_random(words: &[&str], turns: u32) {
     let folder = house(40);
     let plain = folder.usm(&["bill", "--csv", "house.csv"]).out;
     let mut wait = 7_u64;
     let (mut killed, mut finished, mut most) = (0, 0, 0);
-    for turn in 0..100 {
+    for turn in 0..turns {
         if turn % 10 == 0 {
             fs::remove_file(folder.path("ledger")).ok();
             fs::remove_file(folder.path("ledger-journal")).ok();
             most = 0;
         }
         let mut run = Command::new(USM)
-            .args(WORDS)
+            .args(words)
             .current_dir(&folder.0)
             .stdout(Stdio::null())
             .stderr(Stdio::null())
@@ -193,11 +202,11 @@ fn killed_at_random() {
         assert!(kept >= most, "{kept} after {most}");
         most = kept;
         if turn % 10 == 9 {
-            folder.usm(&WORDS).expect(0, &plain, &note(kept, 40 - kept));
-            folder.usm(&WORDS).expect(0, &plain, &note(40, 0));
+            folder.usm(words).expect(0, &plain, &note(kept, 40 - kept));
+            folder.usm(words).expect(0, &plain, &note(40, 0));
         }
     }
-    assert!(killed >= 20, "{killed} killed, {finished} finished");
+    assert!(killed >= turns / 5, "{killed} killed, {finished} finished");
 }
 
 /// The films that a ledger knows; it is sound, and whole for each of them.
@@ -214,12 +223,24 @@ fn films_kept(folder: &Folder) -> u64 {
 /// Runs on one ledger wait for each other, and no film is read by two of them.
 #[test]
 fn runs_at_once_wait_for_each_other() {
+    assert_eq!(run_at_once(&WORDS), 60);
+}
+
+/// With several films at once another run may come in between, and read what is being read.
+#[test]
+fn runs_at_once_with_several_films_at_once() {
+    let read = run_at_once(&[&WORDS[..], &["-j", "2"]].concat());
+    assert!((60..=240).contains(&read), "{read}");
+}
+
+/// Four runs on one ledger, each with the right bill. Gives how many films they read.
+fn run_at_once(words: &[&str]) -> u64 {
     let folder = house(60);
     let plain = folder.usm(&["bill", "--csv", "house.csv"]).out;
     let runs: Vec<_> = (0..4)
         .map(|_| {
             let mut command = Command::new(USM);
-            command.args(WORDS).current_dir(&folder.0).stdout(Stdio::piped()).stderr(Stdio::piped()).spawn().unwrap()
+            command.args(words).current_dir(&folder.0).stdout(Stdio::piped()).stderr(Stdio::piped()).spawn().unwrap()
         })
         .collect();
     let mut read = 0;
@@ -229,5 +250,30 @@ fn runs_at_once_wait_for_each_other() {
         assert_eq!(String::from_utf8(output.stdout).unwrap(), plain, "{said}");
         read += said.split_whitespace().rev().nth(2).unwrap().parse::<u64>().unwrap();
     }
-    assert_eq!(read, 60);
+    read
+}
+
+/// However many films are read at once, the bill is the same to its last byte.
+#[test]
+fn several_films_at_once() {
+    let folder = house(30);
+    write_old(&folder, "cut.usm", &films::f()[..428]);
+    write_old(&folder, "copy.usm", &folder.read("5.usm"));
+    let text = String::from_utf8(folder.read("house.csv")).unwrap();
+    let more = "9,1,cut.usm\n9,5,copy.usm\n1,5,none.usm\n8,,7.usm\n";
+    folder.write("house.csv", format!("{text}{more}").as_bytes());
+    for form in ["--csv", "--json", "--totals"] {
+        let plain = folder.usm(&["bill", form, "house.csv"]);
+        assert_eq!(plain.status, 1, "{}", plain.err);
+        for jobs in ["-j=2", "-j=7", "-j=100", "-j"] {
+            assert_eq!(folder.usm(&["bill", form, "house.csv", jobs]), plain, "{form} {jobs}");
+            fs::remove_file(folder.path("ledger")).ok();
+            let words = ["bill", form, "house.csv", jobs, "--ledger", "ledger"];
+            for (known, read) in [(0, 32), (32, 0)] {
+                let run = folder.usm(&words);
+                assert_eq!((run.status, &run.out), (1, &plain.out), "{form} {jobs}");
+                assert_eq!(run.err, format!("{}{}", note(known, read), plain.err), "{form} {jobs}");
+            }
+        }
+    }
 }

@@ -21,6 +21,7 @@ fn films_that_are_read_piece_by_piece_take_a_window() {
     let folder = Folder::new();
     let film = films::large(b"large", 200 * MIB);
     folder.write("large.usm", &film);
+    folder.write("holdings.csv", b"tenant,key,film\n1,1,large.usm\n2,2,large.usm\n3,FF00000000000001,large.usm\n");
     for words in [
         "extract large.usm -k 1",
         "extract --force large.usm",
@@ -35,6 +36,10 @@ fn films_that_are_read_piece_by_piece_take_a_window() {
         "index large.usm",
         "seek large.usm 1000",
         "seek large.usm 1000 --index large.usm-index --check",
+        "digest -k 1 large.usm",
+        "digest large.usm",
+        "bill holdings.csv",
+        "bill --ledger ledger holdings.csv 2>/dev/null",
     ] {
         assert_eq!(with_memory(&folder, WINDOW, words), (0, String::new()), "{words}");
     }

@@ -1,7 +1,11 @@
-//! Learns of every film what the bill needs: from the ledger, or by reading it, once.
+//! Learns of every film what the bill needs: from the ledger, or by reading it, once. Several may be read at once; one
+//! alone has the books and the ledger.
 
-use std::collections::HashMap;
-use std::path::Path;
+use std::collections::{BTreeMap, HashMap};
+use std::path::PathBuf;
+use std::sync::Arc;
+use std::sync::mpsc::{Sender, SyncSender, channel, sync_channel};
+use std::thread::{self, Scope};
 
 use super::books::{Books, Entry, Wanted};
 use super::films::{Film, Found};
@@ -18,33 +22,47 @@ pub struct Learnt {
     pub read: u64,
 }
 
-/// Learns of every film. One that is refused or can't be read is left out, with the reason.
-pub fn learn(books: &Books, holdings: &Holdings, ledger: Option<&Ledger>) -> Result<Learnt, Error> {
+/// Learns of every film, so many at once. One that is refused or can't be read is left out, with the reason.
+pub fn learn(books: &Books, holdings: &Holdings, ledger: Option<&Ledger>, jobs: usize) -> Result<Learnt, Error> {
     let progress = Progress::new(Some(books.bytes_wanted()?));
-    let mut learner = Learner { books, holdings, learnt: Learnt::default() };
-    let mut last = 0;
-    while let Some(wanted) = books.wanted_after(last)? {
-        last = wanted.file;
-        let meter = Meter::new(&progress, 1, wanted.identity.size);
-        let learnt = match ledger {
-            Some(ledger) => learner.with_ledger(ledger, &wanted, &meter)?,
-            None => learner.without_ledger(&wanted, &meter),
-        };
-        match learnt {
-            Ok(()) => {}
-            Err(Error::Refused(refusal)) => books.leave_out(wanted.file, &refusal.to_string())?,
-            Err(Error::Declined(why) | Error::System(why)) => books.leave_out(wanted.file, &why)?,
-            Err(error) => return Err(error),
-        }
-    }
+    let lock = Lock { ledger, is_held: false };
+    let mut learner = Learner {
+        books,
+        holdings,
+        lock,
+        learnt: Learnt::default(),
+        last: 0,
+        given: 0,
+        done: BTreeMap::new(),
+        entered: 0,
+    };
+    let done = thread::scope(|scope| learner.learn(jobs, &progress, scope));
+    let done = learner.lock.let_go(done);
     progress.end();
-    Ok(learner.learnt)
+    done.map(|()| learner.learnt)
 }
 
 struct Learner<'a> {
     books: &'a Books,
     holdings: &'a Holdings,
+    lock: Lock<'a>,
     learnt: Learnt,
+    /// The film that was given out last, as the books number it, and how many were.
+    last: i64,
+    given: usize,
+    /// Films that are done and wait for those before them, so that the books are the same however many are read at once.
+    done: BTreeMap<usize, (Arc<Job>, OfFilm)>,
+    /// So many are in the books.
+    entered: usize,
+}
+
+/// A film to be read.
+struct Job {
+    /// By the order in which films are given out.
+    number: usize,
+    wanted: Wanted,
+    path: PathBuf,
+    entries: Vec<Entry>,
 }
 
 /// What a ledger knows of a film.
@@ -55,79 +73,209 @@ struct Known {
     missing: Vec<Class>,
 }
 
-/// What is in vain for one film is the inner error; the outer one ends the run.
-type OfFilm = Result<(), Error>;
+/// All that is asked of a film, or why it is left out.
+type OfFilm = Result<Known, Error>;
 
-impl Learner<'_> {
-    fn without_ledger(&mut self, wanted: &Wanted, meter: &Meter) -> OfFilm {
-        self.learnt.read += 1;
-        let path = self.holdings.file(&wanted.path);
-        let mut film = Film::open(&path, &wanted.identity)?;
-        let bits = film.bits(meter)?;
-        let entries = self.books.entries(wanted.file)?;
-        let found = film.learn(&classes(keys(&entries), bits), meter)?;
-        self.enter(wanted, &entries, bits, &found)
-    }
+/// What was learnt by reading a film.
+struct Learning {
+    known: Known,
+    /// What of it is new.
+    learnt: Vec<Found>,
+    /// The film's digest, where there is a ledger.
+    container: Option<Container>,
+}
 
-    /// From the ledger, if it knows all that is asked; else while other runs on it wait, so that no two read one film.
-    fn with_ledger(&mut self, ledger: &Ledger, wanted: &Wanted, meter: &Meter) -> Result<OfFilm, Error> {
-        let entries = self.books.entries(wanted.file)?;
-        let path = self.holdings.file(&wanted.path);
-        if let Some(known) = recall_file(ledger, &path, wanted, &entries)? {
-            return self.known(wanted, &entries, &known);
+/// What a film that is being read tells or asks.
+enum Event {
+    /// What does the ledger know of this container?
+    Recall(Arc<Job>, Container, SyncSender<Option<Known>>),
+    Read(Arc<Job>, Result<Learning, Error>),
+}
+
+/// So many films may be done while one before them is not.
+const AHEAD: usize = 64;
+
+impl<'a> Learner<'a> {
+    /// Gives out films, and takes in what is learnt of them, until all are in the books.
+    fn learn<'s>(&mut self, jobs: usize, progress: &'s Progress, scope: &'s Scope<'s, '_>) -> Result<(), Error> {
+        let (tell, hear) = channel();
+        loop {
+            while self.reading() < jobs
+                && let Some(job) = self.next()?
+            {
+                let has_ledger = self.lock.ledger.is_some();
+                let (other, tell) = (job.clone(), tell.clone());
+                let apart = move || read_apart(&other, has_ledger, progress, &tell);
+                // Where there is no thread to be had, this one does the work.
+                if jobs == 1 || thread::Builder::new().spawn_scoped(scope, apart).is_err() {
+                    let recall = self.lock.ledger.map(|ledger| recalling(ledger, &job));
+                    let learning = read(&job, recall, progress)?;
+                    self.take(job, learning)?;
+                }
+            }
+            if self.reading() == 0 {
+                return Ok(());
+            }
+            match hear.recv() {
+                Ok(Event::Recall(job, container, answer)) => {
+                    let known = self.lock.ledger.map(|ledger| recall(ledger, &container, &job.entries)).transpose()?;
+                    answer.send(known.flatten()).ok();
+                }
+                Ok(Event::Read(job, learning)) => self.take(job, learning)?,
+                Err(_) => return Err(Error::System("no film tells anything any more".to_string())),
+            }
         }
-        ledger.begin()?;
-        ledger.end(match recall_file(ledger, &path, wanted, &entries)? {
-            Some(known) => self.known(wanted, &entries, &known),
-            None => self.anew(ledger, &path, wanted, &entries, meter),
-        })
     }
 
-    fn known(&mut self, wanted: &Wanted, entries: &[Entry], known: &Known) -> Result<OfFilm, Error> {
-        self.learnt.known += 1;
-        self.enter_known(wanted, entries, known)
+    /// How many films are given out and not done.
+    fn reading(&self) -> usize {
+        self.given - self.entered - self.done.len()
     }
 
-    /// Puts what is known into the books.
-    fn enter_known(&self, wanted: &Wanted, entries: &[Entry], known: &Known) -> Result<OfFilm, Error> {
-        match &known.kind {
-            Kind::Refused(why) => Ok(Err(Error::System(why.clone()))),
-            Kind::Shows(bits) => self.enter(wanted, entries, *bits, &known.found).map(Ok),
+    /// The next film that must be read. What the ledger knows all of is done at once; else other runs on it wait, so that no
+    /// two read one film.
+    fn next(&mut self) -> Result<Option<Arc<Job>>, Error> {
+        while self.done.len() < AHEAD {
+            let Some(wanted) = self.books.wanted_after(self.last)? else { return Ok(None) };
+            self.last = wanted.file;
+            let path = self.holdings.file(&wanted.path);
+            let entries = self.books.entries(wanted.file)?;
+            let job = Arc::new(Job { number: self.given, wanted, path, entries });
+            self.given += 1;
+            let Some(known) = self.recall_file(&job)? else {
+                self.learnt.read += 1;
+                return Ok(Some(job));
+            };
+            self.learnt.known += 1;
+            self.done.insert(job.number, (job, Ok(known)));
+            self.enter()?;
+        }
+        Ok(None)
+    }
+
+    fn recall_file(&mut self, job: &Job) -> Result<Option<Known>, Error> {
+        let Some(ledger) = self.lock.ledger else { return Ok(None) };
+        if let Some(known) = recall_file(ledger, job)? {
+            return Ok(Some(known));
+        }
+        self.lock.hold()?;
+        let known = recall_file(ledger, job)?;
+        if known.is_some() && self.reading() == 1 {
+            // Another run has read it meanwhile, and this one reads nothing else.
+            self.lock.let_go(Ok(()))?;
+        }
+        Ok(known)
+    }
+
+    /// Keeps in the ledger what was learnt of a film, by itself, and puts it into the books.
+    fn take(&mut self, job: Arc<Job>, learning: Result<Learning, Error>) -> Result<(), Error> {
+        let kept = match (self.lock.ledger, &learning) {
+            (Some(ledger), Ok(learning)) => keep(ledger, &job, learning),
+            _ => Ok(()),
+        };
+        self.lock.let_go(kept)?;
+        self.done.insert(job.number, (job, learning.map(|learning| learning.known)));
+        self.enter()?;
+        if self.reading() > 0 { self.lock.hold() } else { Ok(()) }
+    }
+
+    /// Puts what is done into the books, in the order of the films.
+    fn enter(&mut self) -> Result<(), Error> {
+        while let Some((job, known)) = self.done.remove(&self.entered) {
+            self.entered += 1;
+            let file = job.wanted.file;
+            match known {
+                Ok(Known { kind: Kind::Shows(bits), found, .. }) => {
+                    let mut pages = Pages::new(self.books, file, bits)?;
+                    found.iter().try_for_each(|found| pages.enter(found))?;
+                    pages.close(&job.entries)?;
+                }
+                Ok(Known { kind: Kind::Refused(why), .. }) | Err(Error::Declined(why) | Error::System(why)) => {
+                    self.books.leave_out(file, &why)?;
+                }
+                Err(Error::Refused(refusal)) => self.books.leave_out(file, &refusal.to_string())?,
+                Err(error) => return Err(error),
+            }
+        }
+        Ok(())
+    }
+}
+
+/// The ledger, if there is one, which other runs wait for while this one reads films that it does not know.
+struct Lock<'a> {
+    ledger: Option<&'a Ledger>,
+    is_held: bool,
+}
+
+impl Lock<'_> {
+    fn hold(&mut self) -> Result<(), Error> {
+        match self.ledger {
+            Some(ledger) if !self.is_held => {
+                ledger.begin()?;
+                self.is_held = true;
+                Ok(())
+            }
+            _ => Ok(()),
         }
     }
 
-    fn enter(&self, wanted: &Wanted, entries: &[Entry], bits: u64, found: &[Found]) -> Result<(), Error> {
-        let mut pages = Pages::new(self.books, wanted.file, bits)?;
-        found.iter().try_for_each(|found| pages.enter(found))?;
-        pages.close(entries)
+    /// Has what was learnt kept, and lets others in.
+    fn let_go(&mut self, done: Result<(), Error>) -> Result<(), Error> {
+        match self.ledger {
+            Some(ledger) if self.is_held => {
+                self.is_held = false;
+                ledger.end(done)
+            }
+            _ => done,
+        }
     }
+}
 
-    /// Reads a film, and keeps in the ledger what it did not know.
-    fn anew(
-        &mut self,
-        ledger: &Ledger,
-        path: &Path,
-        wanted: &Wanted,
-        entries: &[Entry],
-        meter: &Meter,
-    ) -> Result<OfFilm, Error> {
-        self.learnt.read += 1;
-        let opened = Film::open(path, &wanted.identity).and_then(|mut film| Ok((film.digest(meter)?, film)));
-        let (container, mut film) = match opened {
-            Ok(opened) => opened,
-            Err(error) => return Ok(Err(error)),
-        };
-        let known = recall(ledger, &container, entries)?;
-        let (known, learnt) = match complete(&mut film, known, entries, meter) {
-            Ok(learnt) => learnt,
-            Err(error) => return Ok(Err(error)),
-        };
-        ledger.keep_film(path, &wanted.identity, &container)?;
-        ledger.keep_kind(&container, &known.kind)?;
-        let first = learnt.first().and_then(|found| found.class);
-        learnt.iter().try_for_each(|found| ledger.keep_found(&container, first, found))?;
-        self.enter_known(wanted, entries, &known)
-    }
+/// Keeps what was learnt of a film.
+fn keep(ledger: &Ledger, job: &Job, learning: &Learning) -> Result<(), Error> {
+    let Learning { known, learnt, container: Some(container) } = learning else { return Ok(()) };
+    ledger.keep_film(&job.path, &job.wanted.identity, container)?;
+    ledger.keep_kind(container, &known.kind)?;
+    let first = learnt.first().and_then(|found| found.class);
+    learnt.iter().try_for_each(|found| ledger.keep_found(container, first, found))
+}
+
+/// What is asked of a ledger about a container.
+type Recall<'r> = Box<dyn Fn(&Container) -> Result<Option<Known>, Error> + 'r>;
+
+fn recalling<'r>(ledger: &'r Ledger, job: &'r Job) -> Recall<'r> {
+    Box::new(|container| recall(ledger, container, &job.entries))
+}
+
+/// Reads a film. What goes wrong with the film is the inner error; the outer one, of the ledger, ends the run.
+fn read(job: &Job, recall: Option<Recall>, progress: &Progress) -> Result<Result<Learning, Error>, Error> {
+    let meter = Meter::new(progress, 1, job.wanted.identity.size);
+    let digested = |recalls: bool| -> Result<(Film, Option<Container>), Error> {
+        let mut film = Film::open(&job.path, &job.wanted.identity)?;
+        let container = if recalls { Some(film.digest(&meter)?) } else { None };
+        Ok((film, container))
+    };
+    let (mut film, container) = match digested(recall.is_some()) {
+        Ok(digested) => digested,
+        Err(error) => return Ok(Err(error)),
+    };
+    let known = match (&recall, &container) {
+        (Some(recall), Some(container)) => recall(container)?,
+        _ => None,
+    };
+    let learnt = complete(&mut film, known, &job.entries, &meter);
+    Ok(learnt.map(|(known, learnt)| Learning { known, learnt, container }))
+}
+
+/// The same beside others: the one who has the ledger is asked, and is told at the end.
+fn read_apart(job: &Arc<Job>, has_ledger: bool, progress: &Progress, tell: &Sender<Event>) {
+    let ask = |container: &Container| {
+        let (answer, heard) = sync_channel(1);
+        tell.send(Event::Recall(job.clone(), *container, answer)).ok();
+        heard.recv().map_err(|_| Error::System("the run has ended".to_string()))
+    };
+    let read = read(job, has_ledger.then(|| Box::new(ask) as Recall), progress).and_then(|read| read);
+    tell.send(Event::Read(job.clone(), read)).ok();
 }
 
 /// Learns what is missing of a film that is open. Gives all of it, and what of it is new.
@@ -175,9 +323,9 @@ fn keys(entries: &[Entry]) -> impl Iterator<Item = Option<u64>> + '_ {
 }
 
 /// All that is asked of a film whose file has not changed; nothing where something is missing.
-fn recall_file(ledger: &Ledger, path: &Path, wanted: &Wanted, entries: &[Entry]) -> Result<Option<Known>, Error> {
-    let Some(container) = ledger.container(path, &wanted.identity)? else { return Ok(None) };
-    Ok(recall(ledger, &container, entries)?.filter(|known| known.missing.is_empty()))
+fn recall_file(ledger: &Ledger, job: &Job) -> Result<Option<Known>, Error> {
+    let Some(container) = ledger.container(&job.path, &job.wanted.identity)? else { return Ok(None) };
+    Ok(recall(ledger, &container, &job.entries)?.filter(|known| known.missing.is_empty()))
 }
 
 /// What the ledger knows of a film by its digest.

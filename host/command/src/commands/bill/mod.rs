@@ -21,6 +21,7 @@ use std::path::PathBuf;
 use clap::Args;
 
 use crate::files::identity::FileId;
+use crate::options::jobs::JobsOption;
 use crate::output::numbers::{counted, grouped};
 use crate::output::text::Shown;
 use crate::output::{Error, Output, Status, report, report_error};
@@ -52,6 +53,8 @@ pub struct Bill {
     /// Who holds which film under which key, a CSV file, or - for standard input
     #[arg(value_name = "HOLDINGS")]
     holdings: PathBuf,
+    #[command(flatten)]
+    jobs: JobsOption,
     /// Write CSV: a line for each tenant of each copy, by rising tenant, then by the digests
     #[arg(long, conflicts_with = "json")]
     csv: bool,
@@ -89,7 +92,7 @@ impl Bill {
         }
         self.note(&reading);
         books.together(|| books.find_films(|film| films::identity(&holdings.file(film))))?;
-        let learnt = books.together(|| learn(&books, &holdings, ledger.as_ref()))?;
+        let learnt = books.together(|| learn(&books, &holdings, ledger.as_ref(), self.jobs.jobs()))?;
         if let Some(ledger) = &self.ledger {
             let [known, read] = [learnt.known, learnt.read].map(grouped);
             report(
