@@ -32,7 +32,8 @@
 //! | save what arrived of a film that was cut | [`salvage()`] |
 //! | check a film against the delivery profile | [`profile()`] |
 //! | know which bits of a key a film shows | [`key_bits`] |
-//! | divide a film's bytes among tenants | [`statement()`] |
+//! | know where two keys part, and why they do not | [`apart()`], [`why`] |
+//! | divide a film's bytes among tenants | [`statement()`], [`statement_by`] |
 //! | write a table as CSV | [`csv()`] |
 //!
 //! Every film, damaged or hostile, has an answer: a result or a [`Refusal`] with a number, a place and a reason. No
@@ -42,6 +43,7 @@
 //! The feature `cridecoder` has a module with the names and signatures of that crate.
 #![deny(unsafe_code)]
 
+mod apart;
 mod chunks;
 mod error;
 mod ffi;
@@ -65,6 +67,7 @@ mod window;
 #[cfg(feature = "cridecoder")]
 pub mod cridecoder;
 
+pub use apart::{Parting, Why, apart, why};
 pub use chunks::{Chunk, ChunkKind, Chunks, Iter, count, list};
 pub use error::Error;
 pub use film::{AudioKind, Film, Outline, Track, VideoKind, extract, extract_into, outline, sizes};
@@ -79,7 +82,7 @@ pub use reading::{Audio, Payloads, Reading, Tables};
 pub use refusal::{Reason, Refusal};
 pub use rekey::Rekeying;
 pub use salvage::{Salvaged, salvage};
-pub use statement::{Share, Tenant, key_bits, statement};
+pub use statement::{Share, Tenant, key_bits, statement, statement_by};
 pub use tables::{Cell, Column, Row, Table, csv, csv_into, csv_size, table};
 
 /// The bytes of the longest film that is read: 1 GiB.

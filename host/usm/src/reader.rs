@@ -104,7 +104,7 @@ impl Mask {
         }
     }
 
-    fn number(self) -> u8 {
+    pub(crate) fn number(self) -> u8 {
         match self {
             Mask::None => 0,
             Mask::Video => 1,

@@ -49,10 +49,39 @@ pub fn key_bits(film: &[u8], reading: Reading) -> Result<u64, Refusal> {
 /// # Ok::<(), Box<dyn std::error::Error>>(())
 /// ```
 pub fn statement(film: &[u8], tenants: &[Tenant]) -> Result<Vec<Share>, Refusal> {
+    shares(tenants, |tenants, lines| ffi::statement(film, tenants, lines))
+}
+
+/// The same of a film that is known by the bits of a key that it shows and by the bytes of a copy, both streams together:
+/// one that was read piece by piece, with all audio taken. The shares are those that [`statement()`] gives it (proved).
+///
+/// ```
+/// use usm::{Reader, Reading, Tenant};
+///
+/// let film = std::fs::read("tests/song.usm")?;
+/// let tenants = [(7, 0x0123456789ABCDEF), (3, 0xFF23456789ABCDEF), (9, 0)];
+/// let tenants = tenants.map(|(number, key)| Tenant { number, key });
+/// let (mut bits, mut size) = (0, 0);
+/// for chunk in Reader::new(std::io::Cursor::new(&film), Reading::default())?.chunks() {
+///     let chunk = chunk?;
+///     bits = bits.max(chunk.mask.key_bits(chunk.length));
+///     size += chunk.length;
+/// }
+/// assert_eq!(usm::statement_by(bits, size, &tenants)?, usm::statement(&film, &tenants)?);
+/// # Ok::<(), Box<dyn std::error::Error>>(())
+/// ```
+pub fn statement_by(bits: u64, size: usize, tenants: &[Tenant]) -> Result<Vec<Share>, Refusal> {
+    shares(tenants, |tenants, lines| ffi::statement_by(bits, size, tenants, lines))
+}
+
+fn shares(
+    tenants: &[Tenant],
+    call: impl FnOnce(&[ffi::Tenant], &mut Vec<ffi::Share>) -> ffi::ListReply,
+) -> Result<Vec<Share>, Refusal> {
     let tenants: Vec<ffi::Tenant> =
         tenants.iter().map(|tenant| ffi::Tenant { number: tenant.number, key: tenant.key }).collect();
     let mut lines = Vec::with_capacity(tenants.len());
-    let reply = ffi::statement(film, &tenants, &mut lines);
+    let reply = call(&tenants, &mut lines);
     Refusal::check(reply.number, reply.refused_at, reply.unknown_type)?;
     Ok(lines.iter().map(|line| Share { tenant: line.tenant, group: line.group, bytes: line.share }).collect())
 }

@@ -4,7 +4,7 @@ use std::fs;
 use std::io::{self, Read};
 use std::path::Path;
 
-use usm::{Reason, Tenant};
+use usm::Tenant;
 
 use crate::options::key;
 use crate::output::text::Shown;
@@ -21,10 +21,10 @@ pub fn read(path: &Path) -> Result<Vec<Tenant>, Error> {
         report(Status::Success, &format!("note: {}: {note}", Shown::path(path)));
     }
     let tenants: Vec<Tenant> = tenants.into_iter().map(|(tenant, _)| tenant).collect();
-    // A film of no bytes is refused, and for its tenants before anything else.
-    match usm::statement(&[], &tenants) {
-        Err(refusal) if refusal.reason == Reason::BadTenants => Err(Error::with(path, refusal.reason)),
-        _ => Ok(tenants),
+    // Whatever the film, its tenants are looked at first.
+    match usm::statement_by(0, 0, &tenants) {
+        Err(refusal) => Err(Error::with(path, refusal.reason)),
+        Ok(_) => Ok(tenants),
     }
 }
 

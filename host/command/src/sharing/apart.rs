@@ -1,12 +1,11 @@
 //! Where the streams of a film part under two keys.
 
-use std::io::Cursor;
+use std::io::{Read, Seek};
 
-use usm::{ChunkHead, ChunkKind, Mask, Reader, Reading, Stream};
+use usm::{ChunkHead, ChunkKind, Reader, Stream};
 
 use crate::output::Error;
 use crate::output::numbers::grouped;
-use crate::run::input::make_room;
 
 /// The first byte at which a film's streams differ under two keys: of the video, or of the audio where no byte of the
 /// video does.
@@ -36,26 +35,30 @@ impl Apart {
     }
 }
 
-/// Where the streams of a film part under two keys; `None` where they are the same.
-///
-/// Of each stream one payload is unmasked at most: the first that shows a bit in which the keys differ.
-pub fn of(film: &[u8], one: u64, other: u64) -> Result<Option<Apart>, Error> {
-    let mut reader = Reader::new(Cursor::new(film), Reading::default())?;
-    let mut found = Streams::<Option<Apart>>::default();
+/// Where the streams of a film part under one key and under each of others; `None` where they are the same. No payload is
+/// read.
+pub fn of<R: Read + Seek>(reader: &mut Reader<R>, one: u64, others: &[u64]) -> Result<Vec<Option<Apart>>, Error> {
+    reader.rewind()?;
+    let mut found = vec![Streams::<Option<Apart>>::default(); others.len()];
     let mut passed = Streams::<u64>::default();
-    let mut clear = [Vec::new(), Vec::new()];
     while let Some(chunk) = reader.next_chunk()? {
         let Some(stream) = stream_of(&chunk) else { continue };
-        if found.of(stream).is_none() && (one ^ other) & chunk.mask.key_bits(chunk.length) != 0 {
-            let stored = reader.payload(&chunk)?;
-            for (key, clear) in [one, other].into_iter().zip(&mut clear) {
-                make_clear(chunk.mask, Some(key), stored, clear)?;
+        for (&other, found) in others.iter().zip(&mut found) {
+            let found = found.of(stream);
+            if found.is_none() {
+                *found = at(stream, *passed.of(stream), &chunk, in_payload(&chunk, one, other));
             }
-            *found.of(stream) = at(stream, *passed.of(stream), &chunk, &clear[0], &clear[1]);
         }
         *passed.of(stream) += chunk.length as u64;
     }
-    Ok(found.video.or(found.audio))
+    Ok(found.into_iter().map(Streams::first).collect())
+}
+
+/// The first byte of a chunk's payload that differs under two keys, once it is clear. Where the payload shows no bit in
+/// which they differ none does, and none is looked for.
+pub fn in_payload(chunk: &ChunkHead, one: u64, other: u64) -> Option<usize> {
+    let is_shown = (one ^ other) & chunk.mask.key_bits(chunk.length) != 0;
+    is_shown.then(|| chunk.mask.apart(chunk.length, one, other)).flatten()
 }
 
 /// The stream that a chunk's payload is a part of.
@@ -83,52 +86,32 @@ impl<T> Streams<T> {
     }
 }
 
-/// Where a payload parts that is clear under two keys. It begins at a byte of its stream.
-pub fn at(stream: Stream, start: u64, chunk: &ChunkHead, one: &[u8], other: &[u8]) -> Option<Apart> {
-    first_difference(one, other).map(|byte| Apart {
-        is_audio: stream == Stream::Audio,
-        byte: start + byte as u64,
-        chunk: chunk.start as u64,
-    })
-}
-
-/// A payload under a key, or as it is stored without one, in the place of what was in a buffer.
-pub fn make_clear(mask: Mask, key: Option<u64>, stored: &[u8], clear: &mut Vec<u8>) -> Result<(), Error> {
-    make_room(clear, stored.len())?;
-    clear.extend_from_slice(stored);
-    if let Some(key) = key {
-        mask.clear(key, clear);
+impl Streams<Option<Apart>> {
+    /// A difference in the video counts before one in the audio.
+    pub fn first(self) -> Option<Apart> {
+        self.video.or(self.audio)
     }
-    Ok(())
 }
 
-/// So many bytes are compared at once.
-const PIECE: usize = 4096;
-
-fn first_difference(one: &[u8], other: &[u8]) -> Option<usize> {
-    let pieces = one.chunks(PIECE).zip(other.chunks(PIECE));
-    let (number, (one, other)) = pieces.enumerate().find(|(_, (one, other))| one != other)?;
-    let within = one.iter().zip(other).position(|(one, other)| one != other)?;
-    Some(number * PIECE + within)
+/// A byte of a chunk's payload, which begins at a byte of its stream.
+pub fn at(stream: Stream, start: u64, chunk: &ChunkHead, byte: Option<usize>) -> Option<Apart> {
+    byte.map(|byte| Apart { is_audio: stream == Stream::Audio, byte: start + byte as u64, chunk: chunk.start as u64 })
 }
 
 #[cfg(test)]
 mod tests {
+    use std::io::Cursor;
+
     use films::{Film, Header};
-    use usm::{Reading, extract};
+    use usm::{Reader, Reading, extract};
 
-    use super::{Apart, first_difference, of};
+    use super::Apart;
 
-    #[test]
-    fn the_first_difference() {
-        let one = vec![7; 3 * 4096 + 5];
-        assert_eq!(first_difference(&one, &one), None);
-        for place in [0, 1, 4095, 4096, 8191, 3 * 4096 + 4] {
-            let mut other = one.clone();
-            other[place] = 8;
-            other[3 * 4096 + 4] = 8;
-            assert_eq!(first_difference(&one, &other), Some(place));
-        }
+    fn of(film: &[u8], one: u64, other: u64) -> Option<Apart> {
+        let mut reader = Reader::new(Cursor::new(film), Reading::default()).unwrap();
+        let found = super::of(&mut reader, one, &[other, one]).unwrap();
+        assert_eq!(found[1], None);
+        found[0]
     }
 
     /// A film with short and long payloads of both streams, and one of another data type.
@@ -163,16 +146,19 @@ mod tests {
             for bit in 0..64 {
                 for key in [0, 0x0123_4567_89AB_CDEF] {
                     let other = key ^ (1 << bit);
-                    let apart = of(film, key, other).unwrap();
+                    let apart = of(film, key, other);
                     let said = apart.map(|apart| (apart.is_audio, apart.byte));
                     assert_eq!(said, unpacked(film, key, other), "bit {bit}");
+                    let whole = usm::apart(film, Reading::default(), key, other).unwrap();
+                    let whole = whole.map(|whole| (whole.byte as u64, whole.chunk as u64));
+                    assert_eq!(apart.map(|apart| (apart.byte, apart.chunk)), whole, "bit {bit}");
                 }
             }
         }
         let chunks: Vec<u64> = usm::list(&whole, Reading::default()).unwrap().iter().map(|c| c.start as u64).collect();
-        let Some(Apart { chunk, .. }) = of(&whole, 0, 1).unwrap() else { panic!("the keys differ") };
+        let Some(Apart { chunk, .. }) = of(&whole, 0, 1) else { panic!("the keys differ") };
         assert_eq!(chunk, chunks[4], "the video that shows the key, though audio shows it before");
-        let Some(Apart { chunk, .. }) = of(&short.bytes, 0, 1 << 34).unwrap() else { panic!("the keys differ") };
+        let Some(Apart { chunk, .. }) = of(&short.bytes, 0, 1 << 34) else { panic!("the keys differ") };
         assert_eq!(chunk, usm::list(&short.bytes, Reading::default()).unwrap().get(2).unwrap().start as u64);
     }
 }

@@ -2,4 +2,5 @@
 
 pub mod apart;
 pub mod classes;
+pub mod shown;
 pub mod why;

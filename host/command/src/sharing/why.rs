@@ -1,9 +1,9 @@
 //! Why those who have a film have one copy of it: in words, and by the sixteen digits of their keys.
 
-use crate::output::digits::{PLACES, bits_that_count, places};
+use crate::output::digits::{PLACES, places};
 
 /// Why all who hold a film under these keys have one copy of it.
-#[derive(Clone, Copy, PartialEq, Eq, Debug)]
+#[derive(Clone, Copy, PartialEq, Eq, PartialOrd, Ord, Debug)]
 pub enum Why {
     /// There is one key.
     OneKey,
@@ -16,17 +16,24 @@ pub enum Why {
 }
 
 impl Why {
-    /// Of keys that are one class for a film, which shows these bits. `None` stands for the streams as they are stored.
+    /// Of keys that are one class for a film, which shows these bits: the reason that is farthest from one key.
     pub fn of(bits: u64, keys: &[Option<u64>]) -> Why {
-        let is_one = keys.windows(2).all(|pair| pair[0] == pair[1]);
-        if is_one {
-            Why::OneKey
-        } else if keys.iter().all(Option::is_some) && differing(keys.iter().copied()) & bits_that_count() == 0 {
-            Why::KeysAgree
-        } else if bits == 0 {
-            Why::NothingShown
-        } else {
-            Why::NotShown
+        let Some((&first, others)) = keys.split_first() else { return Why::OneKey };
+        others.iter().map(|&other| Why::of_two(bits, first, other)).max().unwrap_or(Why::OneKey)
+    }
+
+    /// Of two of them; `None` stands for the streams as they are stored.
+    fn of_two(bits: u64, one: Option<u64>, other: Option<u64>) -> Why {
+        match (one, other) {
+            (None, None) => Why::OneKey,
+            (Some(one), Some(other)) => match usm::why(bits, one, other) {
+                usm::Why::OneKey => Why::OneKey,
+                usm::Why::NeverCount => Why::KeysAgree,
+                _ if bits == 0 => Why::NothingShown,
+                _ => Why::NotShown,
+            },
+            // A film that is the same with a key as it is stored.
+            _ => Why::NothingShown,
         }
     }
 
@@ -102,7 +109,8 @@ pub fn in_digits(bits: u64) -> String {
 
 #[cfg(test)]
 mod tests {
-    use super::{Why, bits_that_count, in_digits};
+    use super::{Why, in_digits};
+    use crate::output::digits::bits_that_count;
 
     #[test]
     fn reasons() {

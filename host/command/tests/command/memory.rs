@@ -32,6 +32,8 @@ fn films_that_are_read_piece_by_piece_take_a_window() {
         "list --json large.usm",
         "keys 1 2 large.usm",
         "keys 1 1 large.usm",
+        "statement <(echo 1,2) large.usm",
+        "statement --why <(printf '1,1\\n2,2\\n') large.usm",
         "rekey --from 1 --to 2 large.usm",
         "index large.usm",
         "seek large.usm 1000",
@@ -68,7 +70,7 @@ fn films_that_are_read_whole_take_their_length() {
     let film = films::large(b"large", 200 * MIB);
     folder.write("large.usm", &film);
     folder.write("small.usm", &films::f());
-    for words in ["table large.usm", "profile large.usm", "statement <(echo 1,2) large.usm"] {
+    for words in ["table large.usm", "profile large.usm"] {
         assert_eq!(with_memory(&folder, film.len() + 64 * MIB, words), (0, String::new()), "{words}");
         let (status, err) = with_memory(&folder, film.len() / 2, &format!("{words} small.usm"));
         assert_eq!((status, err), (2, format!("usm: large.usm: no memory for {} bytes\n", film.len())));

@@ -14,6 +14,7 @@ use crate::run::progress::Meter;
 use crate::run::sources::Source;
 use crate::sharing::apart::Apart;
 use crate::sharing::classes::Class;
+use crate::sharing::shown;
 
 /// The identity of a film. What is no regular file is not even opened: a pipe would be waited for.
 pub fn identity(path: &Path) -> Result<Identity, String> {
@@ -49,13 +50,7 @@ impl<'a> Film<'a> {
 
     /// The bits of a key that the film shows: the largest number of its payloads (proved).
     pub fn bits(&mut self, meter: &Meter) -> Result<u64, Error> {
-        self.read(meter, |reader| {
-            let mut bits = 0;
-            while let Some(chunk) = reader.next_chunk()? {
-                bits = bits.max(chunk.mask.key_bits(chunk.length));
-            }
-            Ok(bits)
-        })
+        self.read(meter, |reader| Ok(shown::of(reader)?.bits))
     }
 
     /// The SHA-256 of the film as it is.

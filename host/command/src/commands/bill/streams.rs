@@ -5,9 +5,9 @@ use usm::{ChunkHead, Mask, Reader, Stream};
 use super::films::Found;
 use crate::output::Error;
 use crate::run::digests::Hashing;
-use crate::run::input::Input;
+use crate::run::input::{Input, make_room};
 use crate::run::progress::Meter;
-use crate::sharing::apart::{self, Apart, Streams, make_clear};
+use crate::sharing::apart::{self, Apart, Streams};
 use crate::sharing::classes::Class;
 
 /// Goes through a film once, and learns its streams under every class of keys.
@@ -84,7 +84,12 @@ impl Learning {
             learning.hashing.add(stream, &self.other);
             let apart = learning.apart.of(stream);
             if apart.is_none() {
-                *apart = apart::at(stream, start, chunk, &self.first, &self.other);
+                let byte = match (first.class, learning.class) {
+                    (Some(one), Some(other)) => apart::in_payload(chunk, one, other),
+                    // One of the two is as it is stored.
+                    _ => first_difference(&self.first, &self.other),
+                };
+                *apart = apart::at(stream, start, chunk, byte);
             }
         }
         Ok(())
@@ -92,8 +97,44 @@ impl Learning {
 }
 
 impl ClassLearning {
-    /// A difference in the video counts before one in the audio.
     fn end(self) -> Found {
-        Found { class: self.class, streams: self.hashing.end(), apart: self.apart.video.or(self.apart.audio) }
+        Found { class: self.class, streams: self.hashing.end(), apart: self.apart.first() }
+    }
+}
+
+/// A payload under a key, or as it is stored without one, in the place of what was in a buffer.
+fn make_clear(mask: Mask, class: Class, stored: &[u8], clear: &mut Vec<u8>) -> Result<(), Error> {
+    make_room(clear, stored.len())?;
+    clear.extend_from_slice(stored);
+    if let Some(key) = class {
+        mask.clear(key, clear);
+    }
+    Ok(())
+}
+
+/// So many bytes are compared at once.
+const PIECE: usize = 4096;
+
+fn first_difference(one: &[u8], other: &[u8]) -> Option<usize> {
+    let pieces = one.chunks(PIECE).zip(other.chunks(PIECE));
+    let (number, (one, other)) = pieces.enumerate().find(|(_, (one, other))| one != other)?;
+    let within = one.iter().zip(other).position(|(one, other)| one != other)?;
+    Some(number * PIECE + within)
+}
+
+#[cfg(test)]
+mod tests {
+    use super::first_difference;
+
+    #[test]
+    fn the_first_difference() {
+        let one = vec![7; 3 * 4096 + 5];
+        assert_eq!(first_difference(&one, &one), None);
+        for place in [0, 1, 4095, 4096, 8191, 3 * 4096 + 4] {
+            let mut other = one.clone();
+            other[place] = 8;
+            other[3 * 4096 + 4] = 8;
+            assert_eq!(first_difference(&one, &other), Some(place));
+        }
     }
 }

@@ -1,9 +1,10 @@
 //! The copies of a film: why its tenants share each, and where they part.
 
 use std::borrow::Cow;
+use std::io::{Read, Seek};
 
 use serde::Serialize;
-use usm::{Reading, Share, Tenant};
+use usm::{Reader, Share, Tenant};
 
 use crate::output::csv::field;
 use crate::output::digits::{has, marks, places};
@@ -30,8 +31,14 @@ struct Copy {
 }
 
 impl Copies {
-    /// Of a film whose statement has these shares. Which tenants have one copy is what the shares say.
-    pub fn of(film: &[u8], tenants: &[Tenant], shares: &[Share]) -> Result<Copies, Error> {
+    /// Of a film that shows these bits of a key, and whose statement has these shares. Which tenants have one copy is what
+    /// the shares say.
+    pub fn of<R: Read + Seek>(
+        reader: &mut Reader<R>,
+        bits: u64,
+        tenants: &[Tenant],
+        shares: &[Share],
+    ) -> Result<Copies, Error> {
         let mut copies: Vec<Copy> = Vec::new();
         for share in shares {
             let key = tenants.iter().find(|tenant| tenant.number == share.tenant).map(|tenant| tenant.key);
@@ -42,14 +49,15 @@ impl Copies {
                 }
             }
         }
-        if let Some((first, others)) = copies.split_first_mut() {
-            for copy in others {
-                if let (Some(one), Some(other)) = (first.keys[0], copy.keys[0]) {
-                    copy.apart = apart::of(film, one, other)?;
-                }
+        if let Some((first, others)) = copies.split_first_mut()
+            && let Some(one) = first.keys[0]
+        {
+            let keys: Vec<u64> = others.iter().filter_map(|copy| copy.keys[0]).collect();
+            for (copy, apart) in others.iter_mut().zip(apart::of(reader, one, &keys)?) {
+                copy.apart = apart;
             }
         }
-        Ok(Copies { bits: usm::key_bits(film, Reading::default())?, copies })
+        Ok(Copies { bits, copies })
     }
 
     /// The bits that count for this film in which a copy's keys differ from those of the first.

@@ -9,16 +9,17 @@ use std::sync::{Mutex, MutexGuard, PoisonError};
 
 use clap::{Args, ValueHint};
 use serde::Serialize;
-use usm::{Share, Tenant};
+use usm::{Reading, Share, Tenant};
 
 use self::copies::Copies;
 use crate::options::tenants;
 use crate::output::csv::{CsvLines, SpreadsheetOption, field};
 use crate::output::json::{About, Kind};
-use crate::output::text::Shown;
+use crate::output::text;
 use crate::output::{Error, Output, Status, print_to, report_error};
 use crate::run::sources::Films;
 use crate::run::workers::{self, Film, Task, Turn};
+use crate::sharing::shown::{self, Shown};
 
 /// Say what tenants owe for the copies of films
 ///
@@ -102,10 +103,12 @@ impl Task for Run<'_> {
     }
 
     fn film<'a>(&'a self, film: Film<'a, '_>, turn: &Turn<'a, '_>) -> Result<(), Error> {
-        let label = film.label;
-        let bytes = film.read()?.bytes;
-        let shares = usm::statement(bytes, &self.tenants)?;
-        let copies = if self.options.why { Some(Copies::of(bytes, &self.tenants, &shares)?) } else { None };
+        let Film { label, input, meter, .. } = film;
+        let mut reader = input.reader(Reading::default(), meter)?;
+        let Shown { bits, bytes } = shown::of(&mut reader)?;
+        let shares = usm::statement_by(bits, bytes, &self.tenants)?;
+        let copies = if self.options.why { Some(Copies::of(&mut reader, bits, &self.tenants, &shares)?) } else { None };
+        reader.get_ref().check_end()?;
         let mut printer = turn.take();
         self.totals().add(&shares);
         if self.options.films.options.json {
@@ -187,7 +190,7 @@ fn file_field(label: &Path) -> Cow<'_, [u8]> {
 
 fn print_shares(label: &Path, shares: &[Share], output: &mut Output) -> Result<(), Error> {
     output.gap()?;
-    print_to!(output, "{}\n{:>20}  {:>20}  {:>12}\n", Shown::path(label), "tenant", "group", "bytes");
+    print_to!(output, "{}\n{:>20}  {:>20}  {:>12}\n", text::Shown::path(label), "tenant", "group", "bytes");
     for Share { tenant, group, bytes, .. } in shares {
         print_to!(output, "{tenant:>20}  {group:>20}  {bytes:>12}\n");
     }
