@@ -1,5 +1,6 @@
 //! `usm extract`: both streams of films as files.
 
+use std::cell::RefCell;
 use std::collections::BTreeSet;
 use std::path::{Path, PathBuf};
 
@@ -107,13 +108,20 @@ impl Task for Extraction<'_> {
         for path in paths {
             staged.create(path)?;
         }
+        let heard = RefCell::new(BTreeSet::new());
         let route = |stream: Stream, channel: u8| {
+            if stream == Stream::Audio {
+                heard.borrow_mut().insert(channel);
+            }
             let is_for = |file: &StreamFile| file.stream == stream && file.channel.is_none_or(|own| own == channel);
             files.iter().position(is_for)
         };
         let sizes = streams::write(&mut reader, self.key, &route, &mut staged, meter)?;
         reader.get_ref().check_end()?;
         self.targets.place(label, staged)?;
+        if let Some(note) = self.note(&heard.borrow(), reader.header()) {
+            turn.note(&note);
+        }
         if self.options.films.options.json {
             // The name, which may be as long as the film, stays where it is.
             let name = reader.header().name.as_deref();
@@ -153,6 +161,23 @@ impl Extraction<'_> {
     fn audio_kind(&self, header: &Header) -> Option<String> {
         let format = header.audio.as_ref().filter(|_| self.reading.audio != Audio::None)?;
         Some(format.kind.to_string())
+    }
+
+    /// What a person may not expect of the audio, by the channels that were taken of it.
+    fn note(&self, heard: &BTreeSet<u8>, header: &Header) -> Option<String> {
+        if self.options.output.quiet || header.audio.is_none() {
+            return None;
+        }
+        match self.reading.audio {
+            Audio::Channel(channel) if heard.is_empty() => {
+                Some(format!("no audio is of channel {channel}: the file is empty"))
+            }
+            Audio::All if self.options.channels.is_none() && heard.len() > 1 => Some(format!(
+                "audio of {} channels is joined in one file; --channels each gives each its own",
+                heard.len()
+            )),
+            _ => None,
+        }
     }
 
     fn print_skipped(&self, label: &Path, output: &mut Output) -> Result<(), Error> {

@@ -7,6 +7,7 @@ use std::thread::{self, JoinHandle};
 use std::time::Duration;
 
 use indicatif::{ProgressBar, ProgressDrawTarget, ProgressStyle};
+use rustix::termios::tcgetwinsize;
 
 use crate::output::error::Status;
 use crate::output::report;
@@ -14,6 +15,10 @@ use crate::output::report;
 const BEFORE_IT_SHOWS: Duration = Duration::from_secs(1);
 const WITH_TOTAL: &str = "{wide_bar} {bytes} of {total_bytes}, {bytes_per_sec}, {eta} left";
 const WITHOUT_TOTAL: &str = "{spinner} {bytes}, {bytes_per_sec}, {elapsed}";
+/// On a terminal that is narrower the bar would go over several lines, so that only this is shown.
+const NARROW: u16 = 64;
+const NARROW_WITH_TOTAL: &str = "{bytes} of {total_bytes}, {eta} left";
+const NARROW_WITHOUT_TOTAL: &str = "{bytes}, {elapsed}";
 /// Bytes between two looks at the bar.
 const SHOWN: u64 = 1 << 20;
 const BETWEEN_DRAWS: Duration = Duration::from_millis(200);
@@ -28,7 +33,12 @@ impl Progress {
     /// Of so many bytes, where that is known.
     pub fn new(total: Option<u64>) -> Progress {
         let bar = ProgressBar::with_draw_target(total, ProgressDrawTarget::hidden());
-        let template = if total.is_some() { WITH_TOTAL } else { WITHOUT_TOTAL };
+        let template = match (total.is_some(), is_narrow()) {
+            (true, false) => WITH_TOTAL,
+            (false, false) => WITHOUT_TOTAL,
+            (true, true) => NARROW_WITH_TOTAL,
+            (false, true) => NARROW_WITHOUT_TOTAL,
+        };
         bar.set_style(ProgressStyle::with_template(template).unwrap_or_else(|_| ProgressStyle::default_bar()));
         let shows = if stderr().is_terminal() { show_later(bar.clone()) } else { None };
         Progress { bar, shows }
@@ -52,6 +62,10 @@ impl Progress {
         }
         self.bar.finish_and_clear();
     }
+}
+
+fn is_narrow() -> bool {
+    tcgetwinsize(stderr()).is_ok_and(|size| size.ws_col > 0 && size.ws_col < NARROW)
 }
 
 /// Shows the bar after a second, if the run has not ended by then.
@@ -106,11 +120,11 @@ impl Drop for Meter<'_> {
 
 #[cfg(test)]
 mod tests {
-    use super::{ProgressStyle, WITH_TOTAL, WITHOUT_TOTAL};
+    use super::{NARROW_WITH_TOTAL, NARROW_WITHOUT_TOTAL, ProgressStyle, WITH_TOTAL, WITHOUT_TOTAL};
 
     #[test]
     fn the_bars_are_well_formed() {
-        for template in [WITH_TOTAL, WITHOUT_TOTAL] {
+        for template in [WITH_TOTAL, WITHOUT_TOTAL, NARROW_WITH_TOTAL, NARROW_WITHOUT_TOTAL] {
             assert!(ProgressStyle::with_template(template).is_ok(), "{template}");
         }
     }

@@ -112,6 +112,10 @@ fn copy(reader: &mut Reader<&mut Input>, routes: Routes, outputs: &mut [Output],
             ChunkKind::Audio => Stream::Audio,
             _ => continue,
         };
+        // A payload that is skipped, or empty.
+        if chunk.length == 0 {
+            continue;
+        }
         let Some(number) = routes(stream, chunk.channel) else { continue };
         let output = &mut outputs[number];
         let mut copied = 0;

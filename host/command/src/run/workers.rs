@@ -226,6 +226,11 @@ impl<'a> Turn<'a, '_> {
         decided
     }
 
+    /// A note about the film, to standard error, at once.
+    pub fn note(&self, note: &str) {
+        self.workers.progress.report(&format!("note: {}: {note}", Shown::path(self.label)));
+    }
+
     /// Waits for the turn, and gives what may be used then.
     pub fn take(&self) -> Printer<'a, '_> {
         self.workers.wait(self.number)

@@ -174,7 +174,7 @@ fn every_wrong_line_is_reported_before_a_film_is_read() {
              usm: house.csv: line 7: 18446744073709551616 is no tenant's number\n\
              usm: house.csv: line 8: no tenant\n\
              usm: house.csv: line 9: a quotation mark is left open\n\
-             usm: house.csv: line 10: a quotation mark is left open\n\
+             usm: house.csv: line 10: it has 1 field, and the heading has 3\n\
              usm: house.csv: 8 wrong lines; no film was read\n"
         ),
     );

@@ -87,6 +87,29 @@ fn a_tree_keeps_its_folders() {
 }
 
 #[test]
+fn what_a_person_may_not_expect_of_channels() {
+    let folder = Folder::new();
+    folder.write("film.usm", &dubbed());
+    folder.write("song.usm", &example("song.usm"));
+    let joined = "usm: note: film.usm: audio of 2 channels is joined in one file; --channels each gives each its own\n";
+    let absent = "usm: note: film.usm: no audio is of channel 2: the file is empty\n";
+    for (words, note) in [
+        (&["film.usm"][..], joined),
+        (&["--json", "film.usm"], joined),
+        (&["--channel", "2", "film.usm"], absent),
+        (&["--channel", "1", "film.usm"], ""),
+        (&["--channels", "joined", "film.usm"], ""),
+        (&["--channels", "each", "film.usm"], ""),
+        (&["--no-audio", "film.usm"], ""),
+        (&["-q", "--channel", "2", "film.usm"], ""),
+        (&["song.usm"], ""),
+    ] {
+        let run = folder.usm(&[&["extract", "--force"], words].concat());
+        assert_eq!((run.status, run.err.as_str()), (0, note), "{words:?}");
+    }
+}
+
+#[test]
 fn each_channel_in_a_file_of_its_own() {
     let folder = Folder::new();
     folder.write("film.usm", &dubbed());

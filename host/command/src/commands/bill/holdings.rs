@@ -7,6 +7,7 @@ use std::os::unix::ffi::OsStrExt;
 use std::path::{Path, PathBuf};
 
 use crate::options::key;
+use crate::output::numbers::counted;
 use crate::output::text::Shown;
 use crate::output::{Error, Status, report};
 
@@ -206,7 +207,8 @@ impl Columns {
     /// The holding of a line, or all that is wrong with it.
     fn holding<'a>(&'a self, line: u64, fields: &[&'a [u8]], reading: &mut Reading) -> Result<Holding<'a>, String> {
         if fields.len() != self.names.len() {
-            return Err(format!("it has {} fields, and the heading has {}", fields.len(), self.names.len()));
+            let own = counted(fields.len() as u64, "field");
+            return Err(format!("it has {own}, and the heading has {}", self.names.len()));
         }
         let [tenant, key, film] = self.asked.map(|at| fields[at]);
         match (number(tenant), typed(line, key, reading), path(film)) {
