@@ -10,17 +10,17 @@
  * not. What is expected of usm_to_old follows from usm_extract and usm_write in the same way.
  */
 #define _GNU_SOURCE
-#include "../../examples/old_films.h"
+#define OLD_PARTS_MOST MOST
+#define OLD_PARTS_AUDIOS 8
+/* The longest container that is tried at an edge. */
+#define MOST 0x60000
+#include "old_parts.h"
 #include "trials.h"
 #include "usm.h"
 
 #include <signal.h>
 #include <stdio.h>
 #include <stdlib.h>
-
-/* The longest container that is tried at an edge, and the most audios of a film. */
-#define MOST 0x60000
-#define AUDIOS 8
 
 /* The time that an answer may take, in nanoseconds: of a call, and of a byte of the container. */
 #define FOR_THE_CALL 1e6
@@ -59,87 +59,6 @@ struct moved {
 
 static struct memory film_memory, out_memory;
 static uint64_t answers[2][256];
-
-static size_t be32(const uint8_t *at)
-{
-    return (size_t)at[0] << 24 | (size_t)at[1] << 16 | (size_t)at[2] << 8 | at[3];
-}
-
-/* ---- the parts of a container */
-
-static uint8_t videos[MOST], audios[AUDIOS][MOST];
-static struct slice heard[AUDIOS];
-
-/* What a block of the builder's holds that stands at a place: where its size says, as far as the container goes. */
-static struct slice held_at(const uint8_t *film, size_t len, size_t at)
-{
-    size_t counted = film[at + 2] == 'B' ? 0x18 : 20, size = be32(film + at + 4);
-    struct slice held = {film + at + 28, size < counted ? 0 : size - counted};
-
-    if (len - at - 28 < held.len)
-        held.len = len - at - 28;
-    return held;
-}
-
-static int is_at(const uint8_t *at, const char *letters)
-{
-    return memcmp(at, letters, 4) == 0;
-}
-
-/* Adds a payload to a stream that is gathered. */
-static void gather(struct slice *stream, uint8_t *into, struct slice payload)
-{
-    memcpy(into + stream->len, payload.at, payload.len);
-    stream->at = into;
-    stream->len += payload.len;
-}
-
-/* The parts of a container, as if it were a film of the builder. */
-static struct old_parts parts_of(const uint8_t *film, size_t len)
-{
-    struct old_parts parts = {{film, 0}, {videos, 0}, heard, 0};
-    size_t at, next;
-
-    for (at = 0; at < len && len - at > 28 && !is_at(film + at, "@END"); at = next) {
-        struct slice held = held_at(film, len, at);
-
-        next = (at + 28 + held.len + 31) / 32 * 32;
-        if (is_at(film + at, "CRID") && held.len > 68) {
-            parts.name.at = held.at + 68;
-            parts.name.len = held.len - 69;
-        } else if (is_at(film + at, "@SFA") && parts.audio_count < AUDIOS) {
-            heard[parts.audio_count].at = audios[parts.audio_count];
-            heard[parts.audio_count++].len = 0;
-        } else if (is_at(film + at, "@SBV")) {
-            gather(&parts.video, videos, held);
-        } else if (is_at(film + at, "@SBA") && be32(film + at + 16) < parts.audio_count) {
-            gather(&heard[be32(film + at + 16)], audios[be32(film + at + 16)], held);
-        }
-    }
-    return parts;
-}
-
-/* Whether bytes are well-formed UTF-8. */
-static int is_utf8(struct slice text)
-{
-    const uint8_t *at = text.at, *end = text.at + text.len;
-
-    while (at < end) {
-        size_t bytes = at[0] < 0x80 ? 1 : at[0] < 0xC2 ? 0 : at[0] < 0xE0 ? 2 : at[0] < 0xF0 ? 3 : at[0] < 0xF5 ? 4 : 0;
-        size_t i;
-
-        if (bytes == 0 || (size_t)(end - at) < bytes)
-            return 0;
-        for (i = 1; i < bytes; i++)
-            if (at[i] >> 6 != 2)
-                return 0;
-        if ((at[0] == 0xE0 && at[1] < 0xA0) || (at[0] == 0xED && at[1] > 0x9F) || (at[0] == 0xF0 && at[1] < 0x90) ||
-            (at[0] == 0xF4 && at[1] > 0x8F))
-            return 0;
-        at += bytes;
-    }
-    return 1;
-}
 
 /* ---- what is expected */
 

@@ -95,6 +95,7 @@ def main(folder):
                 expected.write(line + "\n")
 
 
-if len(sys.argv) != 2:
-    sys.exit("usage: checks/records/requests.py FOLDER")
-main(sys.argv[1])
+if __name__ == "__main__":
+    if len(sys.argv) != 2:
+        sys.exit("usage: checks/records/requests.py FOLDER")
+    main(sys.argv[1])
