@@ -127,6 +127,16 @@ fn what_is_no_ledger_is_left_as_it_is() {
     folder.write("ledger", &good);
     change(&folder, "UPDATE streams SET video_sha256 = zeroblob(32) WHERE class = 1");
     refused(&folder.read("ledger"), "damaged");
+    // Damage in the names of columns, which SQLite and the seals do not see, before a film that the ledger does not know.
+    write_old(&folder, "0.usm", &packed(&stream(9, 4000), b"", 0));
+    refused(&replaced(&good, b"in_audio", b"in_\xE1udio"), "damaged");
+    refused(&replaced(&good, b"video_bytes INTEGER, audio_bytes", b"audio_bytes INTEGER, video_bytes"), "damaged");
+}
+
+/// A ledger with other bytes in the place of some.
+fn replaced(ledger: &[u8], old: &[u8], new: &[u8]) -> Vec<u8> {
+    let at = ledger.windows(old.len()).position(|bytes| bytes == old).expect("these bytes");
+    [&ledger[..at], new, &ledger[at + old.len()..]].concat()
 }
 
 fn change(folder: &Folder, text: &str) {

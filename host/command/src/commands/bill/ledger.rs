@@ -85,7 +85,23 @@ impl Ledger {
             return Err(self.refused(&why));
         }
         let sound: String = self.sql(self.connection.query_row("PRAGMA quick_check(1)", [], |row| row.get(0)))?;
-        if sound != "ok" { Err(self.damaged()) } else { NAMES.iter().try_for_each(|table| self.check_seals(table)) }
+        if sound != "ok" || !self.has_its_tables()? {
+            return Err(self.damaged());
+        }
+        NAMES.iter().try_for_each(|table| self.check_seals(table))
+    }
+
+    /// Whether the tables are those of a new ledger, letter by letter. SQLite takes what stands there as it is: a column of
+    /// another name is missed only when it is asked for, and two names that were exchanged never.
+    fn has_its_tables(&self) -> Result<bool, Error> {
+        let new = self.sql(Connection::open_in_memory())?;
+        self.sql(new.execute_batch(TABLES))?;
+        for table in NAMES {
+            if self.sql(text_of(&self.connection, table))? != self.sql(text_of(&new, table))? {
+                return Ok(false);
+            }
+        }
+        Ok(true)
     }
 
     fn check_seals(&self, table: &str) -> Result<(), Error> {
@@ -255,6 +271,12 @@ impl Ledger {
 
 const DAMAGED: &str =
     "the ledger is damaged; it was left as it is. Without it, or with a new one, all films are read again";
+
+/// The text that made a table, as bytes: damaged, it may be no text. `None` where there is no such table.
+fn text_of(connection: &Connection, table: &str) -> Result<Option<Vec<u8>>, rusqlite::Error> {
+    let text = "SELECT CAST(sql AS BLOB) FROM sqlite_master WHERE type = 'table' AND name = ?1";
+    connection.query_row(text, [table], |row| row.get(0)).optional()
+}
 
 fn told(path: &Path, error: &rusqlite::Error) -> Error {
     match error.sqlite_error_code() {
