@@ -3,6 +3,7 @@
 pub mod identity;
 pub mod leftovers;
 pub mod names;
+pub mod replaced;
 pub mod staged;
 pub mod system;
 pub mod targets;

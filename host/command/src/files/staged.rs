@@ -30,8 +30,11 @@ pub struct Replacing<'a> {
     /// Files that are there are replaced.
     pub force: bool,
     /// Why a file that is there must not be replaced even so.
-    pub is_kept: &'a dyn Fn(FileId) -> Option<String>,
+    pub is_kept: IsKept<'a>,
 }
+
+/// Why a file must not be replaced, if it must not.
+pub type IsKept<'a> = &'a dyn Fn(FileId) -> Option<String>;
 
 struct StagedFile {
     file: File,

@@ -1,11 +1,13 @@
 //! Lists of files: those to be done, and those that failed.
 
 use std::ffi::OsString;
-use std::fs::{self, File};
+use std::fs::File;
 use std::io::{self, Read, Write};
 use std::os::unix::ffi::{OsStrExt, OsStringExt};
 use std::path::{Path, PathBuf};
 
+use crate::files::replaced;
+use crate::files::staged::IsKept;
 use crate::output::Error;
 
 /// No list is longer.
@@ -25,8 +27,8 @@ pub fn read(list: &Path, null: bool) -> Result<Vec<PathBuf>, Error> {
     Ok(names.map(|name| OsString::from_vec(name.to_vec()).into()).collect())
 }
 
-/// Writes a list. A name with a line's end in it needs zero bytes between names.
-pub fn write(list: &Path, null: bool, files: &[&Path]) -> Result<(), Error> {
+/// Writes a list, whole, in the place of one that is there. A name with a line's end in it needs zero bytes between names.
+pub fn write(list: &Path, null: bool, files: &[&Path], is_kept: IsKept) -> Result<(), Error> {
     let mut text = Vec::new();
     for file in files {
         let name = file.as_os_str().as_bytes();
@@ -36,8 +38,10 @@ pub fn write(list: &Path, null: bool, files: &[&Path]) -> Result<(), Error> {
         text.extend_from_slice(name);
         text.push(end_of(null));
     }
-    let written = if list.as_os_str() == "-" { io::stdout().write_all(&text) } else { fs::write(list, &text) };
-    written.map_err(|error| Error::with(list, error))
+    if list.as_os_str() == "-" {
+        return io::stdout().write_all(&text).map_err(Error::Output);
+    }
+    replaced::write(list, is_kept, |file| file.write_all(&text).map_err(|error| Error::with(list, error)))
 }
 
 fn end_of(null: bool) -> u8 {

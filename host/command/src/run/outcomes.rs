@@ -5,6 +5,7 @@ use std::path::{Path, PathBuf};
 
 use usm::Reason;
 
+use crate::files::identity::FileId;
 use crate::output::{Error, Status, report};
 use crate::run::lists;
 use crate::run::sources::{RunOptions, Source};
@@ -50,7 +51,10 @@ impl Outcomes {
         }
         match &options.failed {
             Some(list) => {
-                lists::write(list, options.null, &self.labels.iter().map(PathBuf::as_path).collect::<Vec<_>>())
+                let labels: Vec<&Path> = self.labels.iter().map(PathBuf::as_path).collect();
+                let is_film = |id: FileId| sources.iter().any(|source| source.id == Some(id));
+                let is_kept = |id: FileId| is_film(id).then(|| "it is a film of this run".to_string());
+                lists::write(list, options.null, &labels, &is_kept)
             }
             None => Ok(()),
         }

@@ -2,7 +2,7 @@
 
 use std::fs;
 
-use crate::support::Folder;
+use crate::support::{Folder, SmallDisk};
 
 #[test]
 fn films_from_a_list() {
@@ -33,6 +33,24 @@ fn what_failed_can_be_done_again() {
     let run = folder.usm(&["profile", "--files-from", "again", "--failed", "again", "--summary"]);
     assert!(run.err.ends_with("usm: 2 films: 2 done, 0 refused, 0 failed\n"), "{}", run.err);
     assert_eq!(folder.read("again"), b"");
+}
+
+/// The list takes the place of no film, and stays as it was where there is no room for a new one.
+#[test]
+fn a_list_destroys_nothing() {
+    let folder = Folder::with_films();
+    let film = folder.read("f.usm");
+    let run = folder.usm(&["profile", "f.usm", "--failed", "f.usm"]);
+    assert_eq!((run.status, run.err.as_str()), (2, "usm: f.usm: it is a film of this run\n"));
+    assert_eq!(folder.read("f.usm"), film);
+    let Some(_disk) = SmallDisk::new(&folder) else {
+        eprintln!("SKIPPED: a full disk needs root and mount");
+        return;
+    };
+    folder.shell("echo before > disk/list; cat /dev/zero > disk/filler");
+    let run = folder.usm(&["profile", "cut.usm", "--failed", "disk/list"]);
+    assert!(run.status == 2 && run.err.contains("disk/list: No space left"), "{run:?}");
+    assert_eq!(folder.read("disk/list"), b"before\n");
 }
 
 #[test]

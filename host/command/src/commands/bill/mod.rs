@@ -9,7 +9,6 @@ mod json;
 mod learn;
 mod ledger;
 mod page;
-mod page_file;
 mod streams;
 mod table;
 mod text;
@@ -21,6 +20,7 @@ use std::path::PathBuf;
 use clap::Args;
 
 use crate::files::identity::FileId;
+use crate::files::replaced;
 use crate::options::jobs::JobsOption;
 use crate::output::numbers::{counted, grouped};
 use crate::output::text::Shown;
@@ -30,9 +30,6 @@ use holdings::Holdings;
 use learn::learn;
 use ledger::Ledger;
 use page::Reader;
-
-/// Why a file must not be replaced.
-type IsKept<'a> = &'a dyn Fn(FileId) -> Option<String>;
 
 /// Say which copies there are of a house's films, who shares each, and why
 ///
@@ -132,7 +129,7 @@ impl Bill {
             Some(tenant) => return Err(Error::with(&self.holdings, format!("no line is of tenant {tenant}"))),
         };
         let is_kept = |id: FileId| self.is_read(books, id).then(|| "this bill is made of it".to_string());
-        page_file::write(path, &is_kept, |file| page::write(books, summary, reader, file))
+        replaced::write(path, &is_kept, |file| page::write(books, summary, reader, file))
     }
 
     /// Whether a file is one that the bill is made of: the holdings, the ledger or a film.
