@@ -77,14 +77,20 @@ impl<S: FileSystem> StagedFiles<S> {
             created => created.map(|file| (file, None)),
         }
         .map_err(|error| Error::with(&target, error))?;
-        let id = file.metadata().map(|metadata| FileId::of(&metadata)).map_err(|error| Error::with(&target, error))?;
-        self.files.push(StagedFile { file, id, target, hidden });
+        match self.system.identity(&file) {
+            Ok(id) => self.files.push(StagedFile { file, id, target, hidden }),
+            Err(error) => {
+                hidden.iter().for_each(|hidden| self.discard(hidden));
+                return Err(Error::with(&target, error));
+            }
+        }
         let last = self.files.len() - 1;
         Ok(&mut self.files[last].file)
     }
 
     /// A file under a hidden name, where the file system has none without.
     fn create_hidden(&self, folder: &Path) -> io::Result<(File, Option<PathBuf>)> {
+        let _held = leftovers::hold();
         loop {
             let hidden = hidden_name(folder);
             match self.system.create_named(&hidden) {
@@ -112,6 +118,8 @@ impl<S: FileSystem> StagedFiles<S> {
                 self.system.sync(&staged.file).map_err(|error| Error::with(&staged.target, error))?;
             }
         }
+        // A run that is stopped meanwhile ends with all names or none.
+        let _held = leftovers::hold();
         let mut placed = Vec::new();
         let result = self.place_all(replacing, &mut placed).and_then(|()| self.close_all());
         if let Err(error) = result {
@@ -142,6 +150,12 @@ impl<S: FileSystem> StagedFiles<S> {
             self.system.close(staged.file).map_err(|error| Error::with(&staged.target, error))?;
         }
         Ok(())
+    }
+
+    /// Removes a file under a hidden name.
+    fn discard(&self, hidden: &Path) {
+        self.system.remove(hidden).ok();
+        leftovers::forget(hidden);
     }
 
     /// Undoes what was placed before something failed.
@@ -311,10 +325,8 @@ fn hidden_name(folder: &Path) -> PathBuf {
 
 impl<S: FileSystem> Drop for StagedFiles<S> {
     fn drop(&mut self) {
-        for hidden in self.files.drain(..).filter_map(|staged| staged.hidden) {
-            self.system.remove(&hidden).ok();
-            leftovers::forget(&hidden);
-        }
+        let files = std::mem::take(&mut self.files);
+        files.into_iter().filter_map(|staged| staged.hidden).for_each(|hidden| self.discard(&hidden));
     }
 }
 

@@ -7,7 +7,7 @@ use std::io::{self, Error as IoError};
 use std::path::{Path, PathBuf};
 use std::sync::atomic::{AtomicUsize, Ordering};
 
-use super::{FileSystem, Linux, Replacing, StagedFiles};
+use super::{FileId, FileSystem, Linux, Replacing, StagedFiles};
 
 /// Linux, but for calls that fail: those of a kind always, and the one of a number.
 struct Failing<'a> {
@@ -54,6 +54,9 @@ impl FileSystem for Failing<'_> {
     }
     fn remove(&self, path: &Path) -> io::Result<()> {
         self.call("remove").and_then(|()| Linux.remove(path))
+    }
+    fn identity(&self, file: &File) -> io::Result<FileId> {
+        self.call("identity").and_then(|()| Linux.identity(file))
     }
     fn metadata(&self, path: &Path) -> io::Result<Metadata> {
         self.call("metadata").and_then(|()| Linux.metadata(path))
@@ -159,6 +162,21 @@ fn one_failure_leaves_the_old_files_under_their_names() {
                     "{failing}"
                 );
             }
+        }
+    }
+}
+
+/// Before a file gets its name nothing needs to be put back, so that one failure leaves nothing at all.
+#[test]
+fn a_file_that_is_not_begun_leaves_nothing() {
+    for always in WAYS {
+        for failing in 1..10 {
+            let folder = Folder::new();
+            let system = Failing { always, errno: EPERM, failing, count: &Cell::new(0) };
+            let mut staged = StagedFiles::with(system, true);
+            let begun = ["one", "two"].iter().all(|name| staged.create(folder.0.join(name)).is_ok());
+            drop(staged);
+            assert!(begun || folder.contents().is_empty(), "{always:?} {failing}: {:?}", folder.contents());
         }
     }
 }

@@ -8,6 +8,8 @@ use std::path::Path;
 use rustix::fd::FromFd;
 use rustix::fs::{AtFlags, Mode, OFlags, RenameFlags, cwd, linkat, openat, renameat_with};
 
+use crate::files::identity::FileId;
+
 pub trait FileSystem {
     /// A file of a folder that has no name, and is gone with its last handle. What is written can be read again.
     fn create_unnamed(&self, folder: &Path) -> io::Result<File>;
@@ -24,6 +26,8 @@ pub trait FileSystem {
     /// Exchanges the names of two files, in one step.
     fn exchange(&self, one: &Path, other: &Path) -> io::Result<()>;
     fn remove(&self, path: &Path) -> io::Result<()>;
+    /// Which file an open file is.
+    fn identity(&self, file: &File) -> io::Result<FileId>;
     /// What stands at a path; a link is not followed.
     fn metadata(&self, path: &Path) -> io::Result<Metadata>;
     /// Has a file's bytes on the disk.
@@ -75,6 +79,10 @@ impl FileSystem for Linux {
 
     fn remove(&self, path: &Path) -> io::Result<()> {
         fs::remove_file(path)
+    }
+
+    fn identity(&self, file: &File) -> io::Result<FileId> {
+        Ok(FileId::of(&file.metadata()?))
     }
 
     fn metadata(&self, path: &Path) -> io::Result<Metadata> {

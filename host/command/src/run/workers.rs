@@ -6,6 +6,7 @@ use std::io::Write;
 use std::ops::{Deref, DerefMut};
 use std::path::Path;
 use std::sync::atomic::{AtomicUsize, Ordering};
+use std::sync::mpsc::channel;
 use std::sync::{Condvar, Mutex, MutexGuard, PoisonError};
 use std::thread;
 
@@ -102,10 +103,18 @@ pub fn run(task: &impl Task, sources: &[Source], options: &RunOptions) -> Status
             buffers.shrink();
         }
     };
+    let (begun, begins) = channel();
+    let begin = || {
+        begun.send(()).ok();
+        work();
+    };
     thread::scope(|scope| {
         for _ in 1..options.jobs.jobs().min(sources.len()) {
-            // Where there is no thread to be had, those that there are do the work.
-            thread::Builder::new().spawn_scoped(scope, work).ok();
+            // Where there is no thread to be had, those that there are do the work. One that finds no memory for its
+            // stack ends the run, so that nothing is begun before it stands.
+            if thread::Builder::new().spawn_scoped(scope, begin).is_ok() {
+                begins.recv().ok();
+            }
         }
         work();
     });
