@@ -5,6 +5,7 @@
 #![forbid(unsafe_code)]
 
 mod commands;
+mod ending;
 mod files;
 mod options;
 mod output;
@@ -59,11 +60,10 @@ enum Command {
 }
 
 fn main() -> ExitCode {
-    let status = match Arguments::try_parse_from(options::jobs::joined(std::env::args_os())) {
+    ending::end_well(|| match Arguments::try_parse_from(options::jobs::joined(std::env::args_os())) {
         Ok(arguments) => run(arguments.command),
         Err(error) => print_usage(error),
-    };
-    ExitCode::from(status as u8)
+    })
 }
 
 fn run(command: Command) -> Status {

@@ -153,3 +153,19 @@ fn a_name_as_long_as_a_film_takes_nothing_more() {
         assert_eq!(with_memory(&folder, most, words), (0, String::new()), "{words}");
     }
 }
+
+/// Where there is no memory for something small, the command says so and ends by no signal.
+#[test]
+fn too_little_memory_is_an_error() {
+    let folder = Folder::with_films();
+    let mut refused = 0;
+    for kilobytes in (300..1000).step_by(50) {
+        for words in ["info song.usm", "extract --force -j2 song.usm f.usm", "bill song.usm"] {
+            let run = folder.shell(&format!("ulimit -d {kilobytes}; exec $USM {words}"));
+            // 127 is the loader's.
+            assert!([0, 1, 2, 127].contains(&run.status), "{kilobytes} KiB: {words}: {run:?}");
+            refused += usize::from(run.status == 2 && run.err.starts_with("memory allocation of "));
+        }
+    }
+    assert!(refused > 0);
+}
