@@ -40,6 +40,7 @@ trap tidy EXIT
 put 755 /bin/true bin/true
 put 644 /etc/passwd lib/one
 put 644 /etc/group lib/other/two
+put_link one lib/link
 place
 """ % PLACE
 
