@@ -348,7 +348,7 @@ class Judge:
         status = run.status()
         if status is None:
             return ["it ends by signal %d" % run.end[1]]
-        if status == self.status and (call.name in OF_THE_PROCESS or run.messages() == messages_of(self.err)):
+        if status == self.status and (call.name in OF_THE_PROCESS or call.is_output() or run.messages() == messages_of(self.err)):
             wrong = [] if states <= {"new"} else ["its status is %d, and files are missing" % status]
             return wrong + ([] if run.out == self.out else ["its status is %d, and its output is another" % status])
         if status not in (1, 2):
