@@ -63,4 +63,23 @@ static inline int same_step(struct usm_step_reply a, struct usm_step_reply b)
            a.data_type == b.data_type && a.channel == b.channel && a.mask == b.mask;
 }
 
+static inline int same_apart(struct usm_apart_reply a, struct usm_apart_reply b)
+{
+    return a.refused_at == b.refused_at && a.byte == b.byte && a.chunk == b.chunk && a.offset == b.offset &&
+           a.number == b.number && a.unknown_type == b.unknown_type && a.stream == b.stream;
+}
+
+static inline int same_cell(struct usm_cell_reply a, struct usm_cell_reply b)
+{
+    return a.refused_at == b.refused_at && a.value == b.value && a.length == b.length && a.number == b.number &&
+           a.unknown_type == b.unknown_type && a.kind == b.kind;
+}
+
+static inline int same_column(struct usm_column_reply a, struct usm_column_reply b)
+{
+    return a.refused_at == b.refused_at && a.name_start == b.name_start && a.name_length == b.name_length &&
+           a.number == b.number && a.unknown_type == b.unknown_type && a.storage == b.storage &&
+           a.type_byte == b.type_byte;
+}
+
 #endif

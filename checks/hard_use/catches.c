@@ -72,6 +72,16 @@ static void cell_name(size_t lacks)
              lend_bytes(&second_read_only, ENDS, (const uint8_t *)"id", 2 - lacks), 2, 0, USM_READ_WITH_AUDIO);
 }
 
+static void column(size_t lacks)
+{
+    usm_column(film_of(TABLE, sizeof TABLE, lacks), sizeof TABLE, 0, 0, USM_READ_WITH_AUDIO);
+}
+
+static void cell_at(size_t lacks)
+{
+    usm_cell_at(film_of(TABLE, sizeof TABLE, lacks), sizeof TABLE, 0, 0, 0, USM_READ_WITH_AUDIO);
+}
+
 /* Extracts the song; the film, the video output or the audio output is too long. */
 static void extract(size_t film, size_t video, size_t audio)
 {
@@ -262,6 +272,8 @@ static const struct {
     {"usm_table, the bytes", table},
     {"usm_cell, the bytes", cell},
     {"usm_cell, the name", cell_name},
+    {"usm_column, the bytes", column},
+    {"usm_cell_at, the bytes", cell_at},
     {"usm_extract, the container", extract_film},
     {"usm_extract, the video output", extract_video},
     {"usm_extract, the audio output", extract_audio},

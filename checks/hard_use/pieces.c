@@ -1,11 +1,12 @@
 /*
- * Hard use of usm_open, usm_step, usm_clear and usm_payload_bits: films made by chance, whole and damaged, read piece by piece, each piece
- * lent at a page that may not be touched; steps at any place of films of any length; payloads under every mask. See
- * README.md.
+ * Hard use of usm_open, usm_step, usm_clear, usm_payload_bits and usm_payload_apart: films made by chance, whole and
+ * damaged, read piece by piece, each piece lent at a page that may not be touched; steps at any place of films of any
+ * length; payloads under every mask. See README.md.
  *
  *     pieces SECONDS SEED
  *
- * What is expected follows from usm_extract and usm_list of the whole film, and from the masks of the other library.
+ * What is expected follows from usm_extract, usm_list, usm_key_bits and usm_apart of the whole film, and from the masks
+ * of the other library.
  */
 #define _GNU_SOURCE
 #include "../../examples/films.h"
@@ -31,7 +32,7 @@
 #define CHUNKS (MADE_BYTES / 8)
 
 static struct memory beginning_memory, window_memory, payload_memory;
-static uint64_t opens[256], steps[256], asked_opens, asked_steps, cleared, accepted, refused_late, judged;
+static uint64_t opens[256], steps[256], asked_opens, asked_steps, cleared, accepted, refused_late, judged, parted, apart_tried, apart_found;
 
 /* A film, how it is read, and what the functions for whole films say of it. */
 struct whole {
@@ -39,6 +40,7 @@ struct whole {
     size_t len;
     struct usm_reading reading;
     struct usm_key key;
+    uint64_t other; /* a key that is often near */
     struct usm_film_reply film;
     struct usm_open_reply opened;
     struct usm_list_reply listed;
@@ -205,13 +207,47 @@ static size_t try_payload(enum edge edge, struct usm_step_reply step, const uint
     return done + step.length;
 }
 
+/* The byte at which both keys part in a stream, by the payloads of its kind so far: the first of a payload that differs. */
+struct parting {
+    size_t before; /* the bytes of the payloads that are the same */
+    struct usm_apart_reply reply;
+};
+
+/* Takes one more payload of the stream. */
+static void part_by(struct parting *parting, uint8_t stream, size_t chunk, struct usm_step_reply step)
+{
+    size_t offset = usm_payload_apart(step.mask, step.length, whole.key.number, whole.other);
+
+    expect(offset <= step.length, "a byte past a payload");
+    if (parting->reply.stream == USM_SAME_STREAMS && offset < step.length) {
+        parting->reply.stream = stream;
+        parting->reply.byte = parting->before + offset;
+        parting->reply.chunk = chunk;
+        parting->reply.offset = offset;
+    }
+    parting->before += step.length;
+}
+
+/* What usm_apart says of the film is what its payloads say, those of the video before those of the audio. */
+static void expect_parting(const struct parting *video, const struct parting *audio)
+{
+    struct usm_apart_reply said = usm_apart(whole.bytes, whole.len, whole.reading, whole.key.number, whole.other);
+
+    expect(same_apart(said, video->reply.stream == USM_SAME_STREAMS ? audio->reply : video->reply),
+           "another byte than that of the whole film");
+    parted += said.stream != USM_SAME_STREAMS;
+}
+
 /* Walks all steps beside the listing, to the film's end or its refusal. */
 static void try_steps(enum edge edge, struct chance *chance)
 {
     struct usm_film_audio audio = usm_audio_of(whole.opened.film);
     size_t place = whole.opened.chunks, count = 0, video = 0, audio_size = 0;
+    struct parting video_parting, audio_parting;
     uint64_t bits = 0;
 
+    memset(&video_parting, 0, sizeof video_parting);
+    memset(&audio_parting, 0, sizeof audio_parting);
     for (;;) {
         size_t left = place < whole.len ? whole.len - place : 0;
         struct usm_step_reply said =
@@ -237,11 +273,16 @@ static void try_steps(enum edge edge, struct chance *chance)
         }
         if (bits < usm_payload_bits(said.mask, said.length))
             bits = usm_payload_bits(said.mask, said.length);
+        if (said.kind == USM_CHUNK_VIDEO)
+            part_by(&video_parting, USM_VIDEO_STREAM, place, said);
+        if (said.kind == USM_CHUNK_AUDIO)
+            part_by(&audio_parting, USM_AUDIO_STREAM, place, said);
         count++;
         place = said.next;
     }
     if (whole.film.number == USM_ACCEPTED) {
         expect(bits == usm_key_bits(whole.bytes, whole.len, whole.reading).bits, "other bits than the whole film's");
+        expect_parting(&video_parting, &audio_parting);
         expect(count == whole.listed.count, "fewer chunks than the listing's");
         expect(video == whole.film.video_size && audio_size == whole.film.audio_size, "streams of other lengths");
         accepted++;
@@ -398,6 +439,7 @@ static void make_whole(enum edge edge, struct chance *chance)
     whole.len = trial.made.len;
     whole.reading = reading_by_chance(chance);
     whole.key = key_by_chance(chance);
+    whole.other = key_near(chance, whole.key.number);
     whole.film = usm_extract(whole.bytes, whole.len, whole.reading, whole.key, NULL, 0, whole.video, sizeof whole.video,
                              whole.audio, sizeof whole.audio);
     whole.listed = usm_list(whole.bytes, whole.len, whole.reading, whole.list, CHUNKS);
@@ -443,21 +485,62 @@ static void try_mask(enum edge edge, uint8_t mask, size_t len, struct chance *ch
     cleared++;
 }
 
+/* The bytes of a payload that usm_clear leaves under a key. */
+static void clear_at(enum edge edge, const uint8_t *stored, size_t len, uint8_t mask, uint64_t key, uint8_t *clear,
+                     struct chance *chance)
+{
+    struct output output = lend_output(&payload_memory, edge, len, chance);
+
+    memcpy(output.at, stored, len);
+    usm_clear(key, mask, output.at, len);
+    memcpy(clear, output.at, len);
+}
+
+/* Lengths of payloads that no machine holds. Two keys part in them where they do in one of the longest that is cleared. */
+static const size_t LONG[] = {0x10000, (size_t)1 << 32, ((size_t)1 << 32) + 0x141, SIZE_MAX - 1, SIZE_MAX};
+
+/* Where two keys part in a payload: the first byte that usm_clear leaves different, or its length. */
+static void try_apart(enum edge edge, uint8_t mask, size_t len, struct chance *chance)
+{
+    static uint8_t stored[0x800], first[0x800], second[0x800];
+    uint64_t key = any(chance), other = key_near(chance, key);
+    size_t at = 0, i;
+
+    fill_by_chance(chance, stored, len);
+    clear_at(edge, stored, len, mask, key, first, chance);
+    clear_at(edge, stored, len, mask, other, second, chance);
+    while (at < len && first[at] == second[at])
+        at++;
+    expect(usm_payload_apart(mask, len, key, other) == at, "keys that part elsewhere than their payloads");
+    for (i = 0; i < COUNT(LONG) && 0x400 <= len; i++)
+        expect(usm_payload_apart(mask, LONG[i], key, other) == (at < len ? at : LONG[i]),
+               "keys that part elsewhere in a long payload");
+    apart_tried++;
+    apart_found += at < len;
+}
+
 static void try_masks(enum edge edge)
 {
     struct chance chance = chance_of(trial.seed, 1);
+    int mask, pairs;
     size_t i;
-    int mask;
 
     for (mask = 0; mask < 256; mask++) {
-        for (i = 0; i < COUNT(LENGTHS); i++)
+        for (i = 0; i < COUNT(LENGTHS); i++) {
             try_mask(edge, (uint8_t)mask, LENGTHS[i], &chance);
-        for (i = 0; i < 20; i++)
+            try_apart(edge, (uint8_t)mask, LENGTHS[i], &chance);
+        }
+        for (i = 0; i < 20; i++) {
             try_mask(edge, (uint8_t)mask, below(&chance, 0x800), &chance);
+            try_apart(edge, (uint8_t)mask, below(&chance, 0x800), &chance);
+        }
     }
     for (mask = USM_MASK_VIDEO; mask <= USM_MASK_AUDIO; mask++)
-        for (i = 0; i < 0x400; i++)
+        for (i = 0; i < 0x400; i++) {
             try_mask(edge, (uint8_t)mask, i, &chance);
+            for (pairs = 0; pairs < 32; pairs++)
+                try_apart(edge, (uint8_t)mask, i, &chance);
+        }
 }
 
 /* ---- what is caught */
@@ -524,6 +607,9 @@ int main(int count, char **words)
            " payloads cleared, %" PRIu64
            " steps at other places beside a listing\n",
            accepted, refused_late, cleared, judged);
+    printf("usm_payload_apart: %" PRIu64 " payloads under two keys, %" PRIu64 " differ; %" PRIu64
+           " films whose payloads part where the film does\n",
+           apart_tried, apart_found, parted);
     printf("pieces: all as expected\n");
     return 0;
 }

@@ -1,11 +1,12 @@
 /*
- * Hard use of usm_statement: on films made by chance, whole and damaged, for 0 to 18 tenants, with lists of every
- * length up to one more than is needed, all at pages that may not be touched; then on the longest films, timed beside
- * usm_list. See README.md.
+ * Hard use of usm_statement and usm_statement_by: on films made by chance, whole and damaged, for 0 to 18 tenants, with
+ * lists of every length up to one more than is needed, all at pages that may not be touched; then on the longest films,
+ * timed beside usm_list. See README.md.
  *
  *     statements SECONDS SEED
  *
- * What is expected follows from usm_extract: its refusals, and the streams under every tenant's key, compared.
+ * What is expected of a film follows from usm_extract: its refusals, and the streams under every tenant's key, compared.
+ * Of the bits and the size of a film the same lines are expected, and of any bits and size those of the keys that agree.
  */
 #define _GNU_SOURCE
 #include "../../examples/films.h"
@@ -74,7 +75,7 @@ static void make_tenants(struct chance *chance)
 
 /* What the tenants bear, line by line. */
 static struct usm_share expected[MOST];
-static uint64_t answers[256], statements, several, shared, remainders;
+static uint64_t answers[2][256], statements, several, shared, remainders;
 
 static int is_bad(void)
 {
@@ -87,16 +88,39 @@ static int is_bad(void)
     return tenant_count == 0 || tenant_count > MOST;
 }
 
-/* Every tenant's line, from both streams under every key, which are compared. */
-static void expect_lines(const uint8_t *film, size_t len, size_t video_size, size_t audio_size)
+/* Whether two tenants have one copy. */
+static uint8_t alike[MOST][MOST];
+
+/* Tenants whose streams are the same, under every key, byte by byte. */
+static void compare_copies(const uint8_t *film, size_t len, size_t video_size, size_t audio_size)
 {
     static uint8_t copies[MOST][MADE_BYTES];
-    size_t size = video_size + audio_size, i, j, groups = 0;
+    size_t size = video_size + audio_size, i, j;
 
     expect(size <= sizeof copies[0], "streams that are longer than the film");
     for (i = 0; i < tenant_count; i++)
         usm_extract(film, len, USM_READ_WITH_AUDIO, usm_with_key(tenants[i].key), NULL, 0, copies[i], video_size,
                     copies[i] + video_size, audio_size);
+    for (i = 0; i < tenant_count; i++)
+        for (j = 0; j < tenant_count; j++)
+            alike[i][j] = memcmp(copies[i], copies[j], size) == 0;
+}
+
+/* Tenants whose keys agree in some bits. */
+static void compare_keys(uint64_t bits)
+{
+    size_t i, j;
+
+    for (i = 0; i < tenant_count; i++)
+        for (j = 0; j < tenant_count; j++)
+            alike[i][j] = ((tenants[i].key ^ tenants[j].key) & bits) == 0;
+}
+
+/* Every tenant's line, where those that are alike share so many bytes. */
+static void expect_lines(size_t size)
+{
+    size_t i, j, groups = 0;
+
     for (i = 0; i < tenant_count; i++) {
         size_t line = 0, members = 0, before = 0;
         uint64_t group = tenants[i].number;
@@ -105,7 +129,7 @@ static void expect_lines(const uint8_t *film, size_t len, size_t video_size, siz
             int lower = tenants[j].number < tenants[i].number;
 
             line += lower;
-            if (memcmp(copies[i], copies[j], size) != 0)
+            if (!alike[i][j])
                 continue;
             members++;
             before += lower;
@@ -122,18 +146,95 @@ static void expect_lines(const uint8_t *film, size_t len, size_t video_size, siz
     several += groups > 1;
 }
 
-/* The reply where the list is long enough. */
-static struct usm_list_reply expected_reply(const uint8_t *film, size_t len)
+/* How tenants are stated: of a film, or of bits and a size. */
+struct question {
+    int by_bits;
+    const uint8_t *film;
+    size_t len;
+    uint64_t bits;
+    size_t size;
+};
+
+static struct usm_list_reply ask(const struct question *question, const struct usm_tenant *given, struct usm_share *lines,
+                                 size_t room)
+{
+    if (question->by_bits)
+        return usm_statement_by(question->bits, question->size, given, tenant_count, lines, room);
+    return usm_statement(question->film, question->len, given, tenant_count, lines, room);
+}
+
+/* Asks with lists of every length. `enough` is the reply where the list is long enough. */
+static void try_lists(enum edge edge, const struct question *question, const struct usm_tenant *given,
+                      struct usm_list_reply enough, struct chance *chance)
+{
+    size_t room;
+
+    for (room = 0; room <= tenant_count + 1; room++) {
+        struct output lines = lend_lines(edge, room, chance);
+        int is_short = enough.number == USM_ACCEPTED && room < tenant_count;
+        int is_filled = enough.number == USM_ACCEPTED && !is_short;
+        struct usm_list_reply reply =
+            ask(question, given, room == 0 && once_in(chance, 2) ? NULL : lines_of(&lines), room);
+
+        answers[question->by_bits][reply.number]++;
+        expect(same_list(reply, is_short ? list_reply(USM_SHORT_LIST, 0, tenant_count, 0) : enough), "another reply");
+        if (is_filled)
+            expect(memcmp(lines.at, expected, tenant_count * sizeof *expected) == 0, "other lines");
+        expect(stays_from(&lines, is_filled ? tenant_count * sizeof *expected : 0), "lines changed that are to stay");
+    }
+}
+
+static struct usm_list_reply reply_on_tenants(void)
+{
+    return is_bad() ? list_reply(USM_BAD_TENANTS, 0, 0, 0) : list_reply(USM_ACCEPTED, 0, tenant_count, 0);
+}
+
+/* A film: stated itself, and by the bits that it shows and the size of a copy. */
+static void try_film(enum edge edge, const uint8_t *film, size_t len, const struct usm_tenant *given,
+                     struct chance *chance)
 {
     struct usm_film_reply read =
         usm_extract(film, len, USM_READ_WITH_AUDIO, USM_NO_KEY, NULL, 0, NULL, 0, NULL, 0);
+    struct question question = {0, film, len, usm_key_bits(film, len, USM_READ_WITH_AUDIO).bits,
+                                read.video_size + read.audio_size};
+    int is_refused = read.number != USM_ACCEPTED && read.number != USM_SHORT_OUTPUT;
 
-    if (is_bad())
-        return list_reply(USM_BAD_TENANTS, 0, 0, 0);
-    if (read.number != USM_ACCEPTED && read.number != USM_SHORT_OUTPUT)
-        return list_reply(read.number, read.refused_at, 0, read.unknown_type);
-    expect_lines(film, len, read.video_size, read.audio_size);
-    return list_reply(USM_ACCEPTED, 0, tenant_count, 0);
+    if (is_refused && !is_bad()) {
+        try_lists(edge, &question, given, list_reply(read.number, read.refused_at, 0, read.unknown_type), chance);
+        return;
+    }
+    if (!is_bad()) {
+        compare_copies(film, len, read.video_size, read.audio_size);
+        expect_lines(question.size);
+    }
+    try_lists(edge, &question, given, reply_on_tenants(), chance);
+    question.by_bits = 1;
+    try_lists(edge, &question, given, reply_on_tenants(), chance);
+}
+
+/* A size of a copy: any, few bytes, or near the largest. */
+static size_t size_by_chance(struct chance *chance)
+{
+    switch (below(chance, 3)) {
+    case 0:
+        return below(chance, 100);
+    case 1:
+        return SIZE_MAX - below(chance, 100);
+    default:
+        return (size_t)any(chance);
+    }
+}
+
+/* Bits and a size that no film need have. */
+static void try_bits(enum edge edge, const struct usm_tenant *given, struct chance *chance)
+{
+    struct question question = {1, NULL, 0, any(chance) & any(chance) & any(chance), size_by_chance(chance)};
+
+    if (!is_bad()) {
+        compare_keys(question.bits);
+        expect_lines(question.size);
+    }
+    try_lists(edge, &question, given, reply_on_tenants(), chance);
 }
 
 /* A case: a film, tenants, and lists of every length. */
@@ -141,9 +242,7 @@ static void try_case(enum edge edge)
 {
     struct chance chance = chance_of(trial.seed, trial.number);
     const struct usm_tenant *given;
-    struct usm_list_reply enough;
     const uint8_t *film;
-    size_t room;
 
     if (once_in(&chance, 2))
         make_any_film(&trial.made, &chance);
@@ -154,36 +253,41 @@ static void try_case(enum edge edge)
     given = lend_tenants(edge, tenants, tenant_count);
     if (tenant_count == 0 && once_in(&chance, 2))
         given = NULL;
-    enough = expected_reply(film, trial.made.len);
-    for (room = 0; room <= tenant_count + 1; room++) {
-        struct output lines = lend_lines(edge, room, &chance);
-        int is_short = enough.number == USM_ACCEPTED && room < tenant_count;
-        int is_filled = enough.number == USM_ACCEPTED && !is_short;
-        struct usm_list_reply reply = usm_statement(film, trial.made.len, given, tenant_count,
-                                                    room == 0 && once_in(&chance, 2) ? NULL : lines_of(&lines), room);
-
-        answers[reply.number]++;
-        expect(same_list(reply, is_short ? list_reply(USM_SHORT_LIST, 0, tenant_count, 0) : enough), "another reply");
-        if (is_filled)
-            expect(memcmp(lines.at, expected, tenant_count * sizeof *expected) == 0, "other lines");
-        expect(stays_from(&lines, is_filled ? tenant_count * sizeof *expected : 0), "lines changed that are to stay");
-    }
+    try_film(edge, film, trial.made.len, given, &chance);
+    try_bits(edge, given, &chance);
 }
 
 /* ---- what is caught */
 
-/* F, cut where its last byte decides, for three tenants; one of what the call is told of is not there: a byte, a
- * tenant or a line. */
-static void state_f(size_t lacks)
+static const struct usm_tenant THREE[3] = {{3, 1}, {1, 2}, {2, 3}};
+
+/* Three tenants, and lines for them; of one there is one less than a call is told of: 2 a tenant, 3 a line. */
+static const struct usm_tenant *lend_three(size_t lacks)
 {
-    static const struct usm_tenant three[3] = {{3, 1}, {1, 2}, {2, 3}};
+    return lend_tenants(ENDS, THREE, 3 - (lacks == 2));
+}
+
+static struct usm_share *lend_three_lines(size_t lacks)
+{
     struct chance chance = chance_of(1, 1);
     struct output lent = lend_lines(ENDS, 3 - (lacks == 3), &chance);
+
+    return lines_of(&lent);
+}
+
+/* F, cut where its last byte decides. That byte is not there where 1 lacks. */
+static void state_f(size_t lacks)
+{
     uint8_t f[F_BYTES];
 
     make_f(f);
-    usm_statement(lend_bytes(&film_memory, ENDS, f, F_DECIDED - (lacks == 1)), F_DECIDED,
-                  lend_tenants(ENDS, three, 3 - (lacks == 2)), 3, lines_of(&lent), 3);
+    usm_statement(lend_bytes(&film_memory, ENDS, f, F_DECIDED - (lacks == 1)), F_DECIDED, lend_three(lacks), 3,
+                  lend_three_lines(lacks), 3);
+}
+
+static void state_bits(size_t lacks)
+{
+    usm_statement_by(1, 100, lend_three(lacks), 3, lend_three_lines(lacks), 3);
 }
 
 /* A call that is told of a byte, a tenant or a line more than there is ends by SIGSEGV; told the truth it ends well. */
@@ -191,8 +295,10 @@ static void show_catches(void)
 {
     size_t lacks;
 
-    for (lacks = 0; lacks < 4; lacks++)
+    for (lacks = 0; lacks < 4; lacks++) {
         expect(signal_of(state_f, lacks) == (lacks == 0 ? 0 : SIGSEGV), "a call that reaches too far is not caught");
+        expect(signal_of(state_bits, lacks) == (lacks < 2 ? 0 : SIGSEGV), "a call that reaches too far is not caught");
+    }
     printf("statements: told of a byte, a tenant or a line more than lent, a call ends by SIGSEGV\n");
 }
 
@@ -250,7 +356,9 @@ int main(int count, char **words)
     show_catches();
     expect_no_signal();
     try_cases(seconds, try_case);
-    print_answers("usm_statement", answers);
+    print_answers("usm_statement", answers[0]);
+    printf("\n");
+    print_answers("usm_statement_by", answers[1]);
     printf("; %" PRIu64 " statements, %" PRIu64 " with several groups; %" PRIu64 " pairs of two keys with one copy; "
            "%" PRIu64 " lines of groups with a remainder\n",
            statements, several, shared / 2, remainders);
