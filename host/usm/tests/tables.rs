@@ -1,5 +1,7 @@
 //! Tables through the library: all their cells, and each by its name.
 
+use std::time::{Duration, Instant};
+
 use films::Value;
 use usm::{Cell, Reading, Reason, Refusal, Tables};
 
@@ -142,6 +144,44 @@ fn header_tables_are_those_of_an_accepted_film() {
     assert_eq!(usm::header_tables(cut, Reading::default()).unwrap_err(), refusal);
 }
 
+/// All columns and rows of the largest table take milliseconds: a cell by its number does not read the table again, as a
+/// look-up by its name does.
+#[test]
+fn the_largest_table_is_gone_through_in_little_time() {
+    let texts: Vec<String> = (0..64).map(|number| format!("column {number}")).collect();
+    let names: Vec<&[u8]> = texts.iter().map(|text| text.as_bytes()).collect();
+    let rows: Vec<Vec<Value>> =
+        (0..256_u32).map(|row| (0..64).map(|at| Value::Number(row * 64 + at)).collect()).collect();
+    let rows: Vec<&[Value]> = rows.iter().map(Vec::as_slice).collect();
+    let bytes = films::table(&names, &rows);
+    for tables in [Tables::Original, Tables::ZeroColumns] {
+        let started = Instant::now();
+        let table = usm::table(&bytes, 0, tables).unwrap();
+        assert!(table.columns().iter().map(|column| column.name).eq(names.iter().copied()));
+        assert!(table.columns().iter().all(|column| !column.constant && column.type_byte == 0x54));
+        let cells = table.rows().flat_map(|row| row.cells());
+        assert!(cells.eq((0..64 * 256).map(Cell::Unsigned)));
+        let took = started.elapsed();
+        assert!(took < Duration::from_millis(500), "{took:?}");
+        assert_eq!(table.cell_at(63, 255), Some(Cell::Unsigned(64 * 256 - 1)));
+        assert_eq!(
+            (table.cell_at(64, 0), table.cell_at(0, 256), table.cell_at(usize::MAX, usize::MAX)),
+            (None, None, None)
+        );
+    }
+}
+
+/// Of columns of one name each has its own cells by number; by name it is the last one's.
+#[test]
+fn columns_of_one_name_are_told_apart_by_number() {
+    let bytes = bytes();
+    let table = usm::table(&bytes, 6, Tables::Original).unwrap();
+    assert_eq!((table.columns()[8].name, table.columns()[10].name), (&b"text"[..], &b"text"[..]));
+    assert_eq!(table.cell_at(8, 0), Some(Cell::String(b"hidden")));
+    assert_eq!(table.cell_at(10, 0), Some(Cell::String(b"first")));
+    assert_eq!(table.cell(b"text", 0), table.cell_at(10, 0));
+}
+
 /// A column of storage 1 takes no room in a row: those after it stand where they would without it.
 #[test]
 fn zero_columns_store_nothing() {
@@ -159,6 +199,8 @@ fn zero_columns_store_nothing() {
     let cells: Vec<String> = table.rows().next().unwrap().cells().map(plain).collect();
     let zeros = ["Unsigned(0)", "Signed(0)", "Float(00000000)", "String([])", "Data([])", "Unsigned(7)"];
     assert_eq!(cells, zeros);
+    let constants: Vec<bool> = table.columns().iter().map(|column| column.constant).collect();
+    assert_eq!(constants, [true, true, true, true, true, false]);
     assert_eq!(agrees_in(&bytes, 0, Tables::ZeroColumns), 1);
     assert_eq!(usm::csv(&bytes, 0, Tables::ZeroColumns).unwrap(), b"a,b,c,d,e,f\r\n0,0,00000000,,,7\r\n");
     bytes[32] = 0x20;
