@@ -5,6 +5,7 @@ from __future__ import annotations
 import csv
 import io
 import math
+import time
 from typing import Any
 
 import pytest
@@ -20,7 +21,7 @@ def test_the_tables_of_the_recorded_headers() -> None:
 
 def test_cells_of_the_song() -> None:
     crid, video, audio, *_ = usm.open(FILMS / "song.usm").tables()
-    assert (crid.columns, crid.row_count) == ([b"filename"], 1)
+    assert (crid.columns, crid.row_count) == ((usm.Column(b"filename", True, 0x3A),), 1)
     assert crid.rows() == list(crid) == [{"filename": b"songs/lark.usm"}]
     assert crid.cell(b"filename", 0) == crid.cell("filename", 0) == b"songs/lark.usm"
     assert (video.cell("mpeg_codec", 0), audio.cell("audio_codec", 0)) == (1, 2)
@@ -56,10 +57,45 @@ KINDS: list[tuple[str, int, bytes, Any]] = [
 def test_every_kind_of_cell() -> None:
     made = table([(name, kind, value) for name, kind, value, _ in KINDS], b"a,b\0")
     read = usm.Table(b"before" + made, 6)
-    assert read.columns == [name.encode() for name, _, _, _ in KINDS]
+    assert read.columns == tuple(usm.Column(name.encode(), False, kind) for name, kind, _, _ in KINDS)
+    assert [read.cell_at(number, 0) for number in range(len(KINDS))] == [cell for _, _, _, cell in KINDS]
     assert read.rows() == [{name: cell for name, _, _, cell in KINDS}]
     record = list(csv.reader(io.StringIO(read.csv().decode(), newline="")))[1]
     assert record == ["255", "-1", "65535", "-32768", "4294967295", "-2147483648", "18446744073709551615", "3f800000", "a,b"]
+
+
+def test_columns_of_one_name_have_cells_of_their_own() -> None:
+    read = usm.Table(table([("twice", 0x50, b"\1"), ("other", 0x50, b"\2"), ("twice", 0x51, b"\xff")], b""))
+    assert [column.name for column in read.columns] == [b"twice", b"other", b"twice"]
+    assert [read.cell_at(number, 0) for number in range(3)] == [1, 2, -1]
+    assert read.cell("twice", 0) == -1 and read.rows() == [{"twice": -1, "other": 2}]
+    assert read.cell_at(3, 0) is None and read.cell_at(0, 1) is None and read.cell_at((1 << 64) - 1, 0) is None
+
+
+def test_which_columns_are_constant() -> None:
+    stored = table([("constant", 0x30, b""), ("zero", 0x10, b""), ("each", 0x50, b"\7")], b"")
+    # The constant stands in its column's record, so all that follows is a byte later.
+    made = bytearray(stored[:37] + b"\5" + stored[37:])
+    for at, width in ((4, 4), (8, 4), (12, 4), (16, 4)):
+        made[at : at + width] = (int.from_bytes(made[at : at + width], "big") + 1).to_bytes(width, "big")
+    read = usm.Table(made, 0, usm.Reading(tables="zero-columns"))
+    assert [(column.constant, column.type_byte) for column in read.columns] == [(True, 0x30), (True, 0x10), (False, 0x50)]
+    assert read.rows() == [{"constant": 5, "zero": 0, "each": 7}]
+
+
+def test_the_largest_table_takes_little_time() -> None:
+    columns, rows = 64, 256
+    body = (b"\x50" + bytes(4)) * columns + bytes(range(256)) * columns + b"\0"
+    rows_at, strings_at = 24 + 5 * columns, 24 + 5 * columns + columns * rows
+    numbers = (24 + len(body), rows_at, strings_at, 24 + len(body), 0)
+    counts = columns.to_bytes(2, "big") + bytes(2) + rows.to_bytes(4, "big")
+    read = usm.Table(b"@UTF" + b"".join(n.to_bytes(4, "big") for n in numbers) + counts + body)
+    started = time.perf_counter()
+    cells = [read.cell_at(column, row) for row in range(rows) for column in range(columns)]
+    took = time.perf_counter() - started
+    assert cells == list(range(256)) * columns
+    assert took < 1, took
+    assert [list(row.values()) for row in read] == [[cell] for cell in cells[columns - 1 :: columns]]
 
 
 def test_a_nan_is_a_float() -> None:
@@ -93,7 +129,13 @@ def test_damaged_headers_have_readable_tables_or_are_refused(at: int, new: int, 
         return
     assert tables[0].place == 32
     for each in tables:
-        assert all(set(row) == {name.decode("utf-8", "surrogateescape") for name in each.columns} for row in each)
+        names = {column.name.decode("utf-8", "surrogateescape") for column in each.columns}
+        assert all(set(row) == names for row in each)
+        for number, column in enumerate(each.columns):
+            last = max(at for at, other in enumerate(each.columns) if other.name == column.name)
+            for row in range(each.row_count):
+                assert each.cell_at(number, row) is not None
+                assert repr(each.cell(column.name, row)) == repr(each.cell_at(last, row))
 
 
 def test_bad_arguments() -> None:
@@ -103,6 +145,12 @@ def test_bad_arguments() -> None:
             crid.cell(wrong, 0)  # type: ignore[arg-type]
     with pytest.raises(ValueError):
         crid.cell("filename", -1)
+    for column, row in ((-1, 0), (0, -1), (1 << 64, 0)):
+        with pytest.raises(ValueError):
+            crid.cell_at(column, row)
+    for wrong in ("filename", None, True):
+        with pytest.raises(TypeError):
+            crid.cell_at(wrong, 0)  # type: ignore[arg-type]
     with pytest.raises(ValueError):
         usm.Table(b"", -1)
     with pytest.raises(TypeError):

@@ -21,7 +21,7 @@ from usm._packing import from_old, pack, to_old
 from usm._reading import Reading
 from usm._refusal import Refusal
 from usm._statement import Share, statement
-from usm._tables import Table
+from usm._tables import Column, Table
 
 __version__: str = _ffi.string(_lib.usm_version()).decode("ascii")
 
@@ -29,6 +29,7 @@ __all__ = [
     "Bill",
     "Chunk",
     "Codecs",
+    "Column",
     "Digest",
     "Digests",
     "Film",

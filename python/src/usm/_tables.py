@@ -2,11 +2,9 @@
 
 from __future__ import annotations
 
-import csv
-import io
 import struct
 from collections.abc import Iterator
-from typing import Optional, Union
+from typing import Any, NamedTuple, Optional, SupportsIndex, Union
 
 from usm._lent import Buffer, lend, unsigned
 from usm._native import ffi, lib
@@ -20,14 +18,29 @@ Cell = Union[int, float, bytes]
 _CSV_LIMIT = 1 << 26
 
 
+class Column(NamedTuple):
+    """A column of a table.
+
+    name: its name, in whatever encoding
+    constant: whether all rows have one value: one that the column stores, or 0 or empty in a zero column
+    type_byte: how values are stored in the high half, what they are in the low half
+    """
+
+    name: bytes
+    constant: bool
+    type_byte: int
+
+
 class Table:
     """A table of a film's header, or one that stands by itself.
 
     place: where it begins in its bytes
-    row_count: how many rows it has
+    columns: its columns in their order, 64 at most; several may have one name
+    row_count: how many rows it has, 256 at most
     """
 
     place: int
+    columns: tuple[Column, ...]
     row_count: int
 
     def __init__(self, data: Buffer, place: int = 0, reading: Reading = DEFAULT) -> None:
@@ -37,14 +50,16 @@ class Table:
         >>> film = open("song.usm", "rb").read()
         >>> usm.Table(film, 32).rows()
         [{'filename': b'songs/lark.usm'}]
+        >>> usm.Table(film, 32).columns
+        (Column(name=b'filename', constant=True, type_byte=58),)
         """
         self._bytes = memoryview(data).cast("B")
         self.place = unsigned(place, 64, "the place")
         self._reading = reading.lent()
         with lend(self._bytes) as lent:
             reply = accepted(lib.usm_table(lent, len(lent), self.place, self._reading))
+            self.columns = tuple(self._column(lent, number) for number in range(reply.columns))
         self.row_count = reply.rows
-        self._names: Optional[list[bytes]] = None
 
     @classmethod
     def at(cls, data: Buffer, place: int, reading: Reading) -> Optional[Table]:
@@ -52,6 +67,11 @@ class Table:
         with lend(data) as lent:
             reply = lib.usm_table(lent, len(lent), place, reading.lent())
         return None if reply.number == lib.USM_NO_TABLE else cls(data, place, reading)
+
+    def _column(self, lent: Any, number: int) -> Column:
+        reply = accepted(lib.usm_column(lent, len(lent), self.place, number, self._reading))
+        name = bytes(self._bytes[reply.name_start : reply.name_start + reply.name_length])
+        return Column(name, reply.storage != lib.USM_STORAGE_ROWS, reply.type_byte)
 
     def cell(self, column: Union[str, bytes], row: int) -> Optional[Cell]:
         """The cell of the last column of a name; None where there is no such column or row."""
@@ -62,6 +82,21 @@ class Table:
                     lent, len(lent), self.place, lent_name, len(name), unsigned(row, 64, "the row"), self._reading
                 )
             )
+        return self._value(reply.kind, reply.value, reply.length)
+
+    def cell_at(self, column: SupportsIndex, row: SupportsIndex) -> Optional[Cell]:
+        """The cell of the column of a number, counted from 0 as in columns; None where there is no such column or row.
+
+        >>> import usm
+        >>> with usm.open("song.usm") as film:
+        ...     film.tables()[0].cell_at(0, 0)
+        b'songs/lark.usm'
+        """
+        with lend(self._bytes) as lent:
+            return self._cell_at(lent, unsigned(column, 64, "the column"), unsigned(row, 64, "the row"))
+
+    def _cell_at(self, lent: Any, column: int, row: int) -> Optional[Cell]:
+        reply = accepted(lib.usm_cell_at(lent, len(lent), self.place, column, row, self._reading))
         return self._value(reply.kind, reply.value, reply.length)
 
     def _value(self, kind: int, value: int, length: int) -> Optional[Cell]:
@@ -75,20 +110,14 @@ class Table:
             return float(struct.unpack("<f", struct.pack("<I", value))[0])
         return bytes(self._bytes[value : value + length])
 
-    @property
-    def columns(self) -> list[bytes]:
-        """The names of the columns, one name several times where the table has it so."""
-        if self._names is None:
-            # The names are the first record of the table's CSV. Latin-1 keeps every byte.
-            text = io.StringIO(self.csv().decode("latin-1"), newline="")
-            names: list[str] = next(csv.reader(text, strict=True), [])
-            self._names = [name.encode("latin-1") for name in names]
-        return self._names
-
     def rows(self) -> list[dict[str, Optional[Cell]]]:
         """The rows, each a dictionary by column names. Of columns of one name the last is taken."""
-        names = [(name.decode("utf-8", "surrogateescape"), name) for name in self.columns]
-        return [{text: self.cell(name, row) for text, name in names} for row in range(self.row_count)]
+        names = [column.name.decode("utf-8", "surrogateescape") for column in self.columns]
+        with lend(self._bytes) as lent:
+            return [
+                {name: self._cell_at(lent, number, row) for number, name in enumerate(names)}
+                for row in range(self.row_count)
+            ]
 
     def __iter__(self) -> Iterator[dict[str, Optional[Cell]]]:
         return iter(self.rows())
