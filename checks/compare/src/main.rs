@@ -38,6 +38,7 @@ mod tables {
     pub mod header;
     pub mod hostile;
     pub mod layout;
+    pub mod numbers;
     pub mod original;
     pub mod pointers;
     pub mod queries;

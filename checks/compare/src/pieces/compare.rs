@@ -1,7 +1,7 @@
 //! One container on both sides: put together of its pieces, and unpacked by the original.
 
 use super::bits;
-use super::exports::{self, FilmAudio};
+use super::exports::{self, ApartReply, FilmAudio};
 use super::reader::{Found, Reader};
 use super::tally::Tally;
 use crate::containers::answer::Refusal;
@@ -55,6 +55,8 @@ fn by_pieces(case: &Case, call: &Call, expected: &Expected, seen: &mut Tally) ->
     header(call, opened.film, beginning, film).map_err(|what| format!("usm_open: {what}"))?;
     chunks(&found, film).map_err(|what| format!("usm_step: {what}"))?;
     bits_of_payloads(case, call, &found).map_err(|what| format!("usm_payload_bits: {what}"))?;
+    seen.parted +=
+        u64::from(part_of_payloads(case, call, &found).map_err(|what| format!("usm_payload_apart: {what}"))?);
     for (kind, stream) in [(VIDEO, &film.video), (AUDIO, &film.audio)] {
         if reader.stream(&found, kind, call.key())? != *stream {
             return Err(format!("usm_clear: the stream of kind {kind} is another"));
@@ -102,6 +104,25 @@ fn chunks(found: &[Found], film: &Film) -> Result<(), String> {
 fn bits_of_payloads(case: &Case, call: &Call, found: &[Found]) -> Result<(), String> {
     let most = found.iter().map(|(_, step)| exports::payload_bits(step.mask, step.length)).max();
     same(most.unwrap_or(0), exports::key_bits(case.container(), call.reading()).bits)
+}
+
+/// Two keys part where the first payload that differs does, of the video or else of the audio. Gives whether they do.
+fn part_of_payloads(case: &Case, call: &Call, found: &[Found]) -> Result<bool, String> {
+    let (key, other) = (call.key, call.key.rotate_left(8) ^ 1);
+    let first = |kind: u8| {
+        let mut before = 0;
+        let mut payloads = found.iter().filter(|(_, step)| step.kind == kind);
+        payloads.find_map(|(start, step)| {
+            let offset = exports::payload_apart(step.mask, step.length, key, other);
+            let byte = before + offset;
+            before += step.length;
+            let stream = kind + 1;
+            (offset < step.length).then(|| ApartReply { byte, chunk: *start, offset, stream, ..ApartReply::default() })
+        })
+    };
+    let parting = first(VIDEO).or_else(|| first(AUDIO)).unwrap_or_default();
+    same(parting, exports::apart(case.container(), call.reading(), key, other))?;
+    Ok(parting.stream != 0)
 }
 
 /// A step as the record that a listing has.

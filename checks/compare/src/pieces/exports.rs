@@ -1,5 +1,5 @@
 //! The functions of libusm.a that read a film piece by piece, and those that tell the bits of a key that a film and a
-//! payload show, as include/usm.h declares them, behind safe calls.
+//! payload show, and where and why two keys part, as include/usm.h declares them, behind safe calls.
 
 use crate::containers::answer::Refusal;
 use crate::containers::exports::{FilmReply, ReadingBytes};
@@ -57,6 +57,18 @@ pub struct KeyBitsReply {
     pub unknown_type: u8,
 }
 
+#[repr(C)]
+#[derive(Clone, Copy, Default, PartialEq, Eq, Debug)]
+pub struct ApartReply {
+    pub refused_at: usize,
+    pub byte: usize,
+    pub chunk: usize,
+    pub offset: usize,
+    pub number: u8,
+    pub unknown_type: u8,
+    pub stream: u8,
+}
+
 #[link(name = "usm", kind = "static")]
 unsafe extern "C" {
     fn usm_open(beginning: *const u8, len: usize, total: usize, reading: ReadingBytes) -> OpenReply;
@@ -71,6 +83,9 @@ unsafe extern "C" {
     fn usm_clear(key: u64, mask: u8, payload: *mut u8, len: usize);
     fn usm_key_bits(container: *const u8, len: usize, reading: ReadingBytes) -> KeyBitsReply;
     fn usm_payload_bits(mask: u8, length: usize) -> u64;
+    fn usm_apart(container: *const u8, len: usize, reading: ReadingBytes, key: u64, other: u64) -> ApartReply;
+    fn usm_payload_apart(mask: u8, length: usize, key: u64, other: u64) -> usize;
+    fn usm_why(bits: u64, key: u64, other: u64) -> u8;
 }
 
 // SAFETY, for the calls below: each pointer and length are those of one slice, lent to this call.
@@ -94,6 +109,20 @@ pub fn key_bits(container: &[u8], reading: ReadingBytes) -> KeyBitsReply {
 pub fn payload_bits(mask: u8, length: usize) -> u64 {
     // SAFETY: it takes numbers alone.
     unsafe { usm_payload_bits(mask, length) }
+}
+
+pub fn apart(container: &[u8], reading: ReadingBytes, key: u64, other: u64) -> ApartReply {
+    unsafe { usm_apart(container.as_ptr(), container.len(), reading, key, other) }
+}
+
+pub fn payload_apart(mask: u8, length: usize, key: u64, other: u64) -> usize {
+    // SAFETY: it takes numbers alone.
+    unsafe { usm_payload_apart(mask, length, key, other) }
+}
+
+pub fn why(bits: u64, key: u64, other: u64) -> u8 {
+    // SAFETY: the same.
+    unsafe { usm_why(bits, key, other) }
 }
 
 /// The refusal that a reply has, where it has one.

@@ -20,10 +20,15 @@ pub struct Tally {
     /// Pairs of keys, and those that agree in the bits that a film shows.
     pub pairs: u64,
     pub agreeing: u64,
+    /// Pairs whose streams part in the video, and in the audio.
+    pub in_video: u64,
+    pub in_audio: u64,
+    /// Films whose payloads part where the film does.
+    pub parted: u64,
 }
 
 impl Tally {
-    fn counts(&mut self) -> [&mut u64; 13] {
+    fn counts(&mut self) -> [&mut u64; 16] {
         [
             &mut self.containers,
             &mut self.accepted,
@@ -38,6 +43,9 @@ impl Tally {
             &mut self.bytes,
             &mut self.pairs,
             &mut self.agreeing,
+            &mut self.in_video,
+            &mut self.in_audio,
+            &mut self.parted,
         ]
     }
 
@@ -53,6 +61,12 @@ impl Tally {
         line("chunks", self.chunks, "");
         line("bytes of streams", self.bytes, "put together of payloads");
         line("pairs of keys", self.pairs, &format!("{} agree in the bits that the film shows", self.agreeing));
+        line(
+            "pairs that part",
+            self.in_video + self.in_audio,
+            &format!("{} in the audio, at the original's byte", self.in_audio),
+        );
+        line("films by payloads", self.parted, "part where the film does");
     }
 }
 

@@ -4,7 +4,7 @@ use std::fmt;
 
 use super::case::Case;
 use super::compare::compare;
-use super::exports::both_with_null;
+use super::exports::all_with_null;
 use super::shrink::shrink;
 use super::tally::Tally;
 use super::{damage, generate, samples, zero_columns};
@@ -59,8 +59,8 @@ pub fn run() -> Result<Tally, Disagreement> {
 
 /// NULL with length 0 is a slice like any other, and is refused with 1.
 fn null_is_allowed() -> Result<(), Disagreement> {
-    match both_with_null(0) {
-        [1, 1] => Ok(()),
+    match all_with_null(0) {
+        [1, 1, 1, 1] => Ok(()),
         numbers => Err(Disagreement { what: format!("at NULL the numbers are {numbers:?}"), smallest: None }),
     }
 }

@@ -8,7 +8,7 @@ use super::exports::{self, CellReply, TableReply};
 use super::original::{self, Answer, Table};
 use super::queries::{self, Query};
 use super::tally::{Outcome, Seen};
-use super::{domain, header};
+use super::{domain, header, numbers};
 use crate::hex::hex;
 use crate::panics::OVERFLOW;
 use crate::reply::same;
@@ -68,6 +68,7 @@ fn accepted(case: &Case, table: &Table) -> Result<Seen, String> {
             None => seen.left_out += 1,
         }
     }
+    numbers::compare(case, table, &mut seen)?;
     Ok(seen)
 }
 
@@ -84,7 +85,7 @@ fn cell(case: &Case, query: &Query) -> CellReply {
 }
 
 /// The reply on a cell; where it has a part, its bytes and that it lies in the body.
-fn same_cell(case: &Case, found: CellReply, expected: &Cell) -> Result<(), String> {
+pub fn same_cell(case: &Case, found: CellReply, expected: &Cell) -> Result<(), String> {
     let number = |kind, value| CellReply { kind, value, ..CellReply::default() };
     let part = |kind, length| CellReply { kind, value: found.value, length, ..CellReply::default() };
     match expected {

@@ -17,6 +17,10 @@ pub struct Seen {
     pub refused_cells: u64,
     /// Cells whose name the original decodes to another.
     pub left_out: u64,
+    /// Columns by number, their cells, and cells of columns that a later one of their name hides.
+    pub columns: u64,
+    pub numbered: u64,
+    pub hidden: u64,
 }
 
 /// The cases of a cell, in the order of their numbers.
@@ -24,7 +28,8 @@ const CASES: [&str; 6] = ["nothing", "unsigned", "signed", "float", "string", "d
 
 impl Seen {
     pub fn new(outcome: Outcome) -> Seen {
-        Seen { outcome, cells: [0; CASES.len()], refused_cells: 0, left_out: 0 }
+        let cells = [0; CASES.len()];
+        Seen { outcome, cells, refused_cells: 0, left_out: 0, columns: 0, numbered: 0, hidden: 0 }
     }
 
     pub fn count(&mut self, cell: &Cell) {
@@ -49,6 +54,9 @@ pub struct Tally {
     cells: [u64; CASES.len()],
     refused_cells: u64,
     left_out: u64,
+    columns: u64,
+    numbered: u64,
+    hidden: u64,
     pub zero_columns: zero_columns::Counts,
 }
 
@@ -64,6 +72,9 @@ impl Tally {
         }
         self.refused_cells += seen.refused_cells;
         self.left_out += seen.left_out;
+        self.columns += seen.columns;
+        self.numbered += seen.numbered;
+        self.hidden += seen.hidden;
     }
 
     pub fn tables(&self) -> u64 {
@@ -87,6 +98,8 @@ impl Tally {
             println!("cells: {case:<9}          {count:>9}");
         }
         println!("cells of refused tables   {:>9}", self.refused_cells);
+        println!("columns by number         {:>9}  {} cells, as the original has them", self.columns, self.numbered);
+        println!("columns that are hidden   {:>9}  by a later one of their name", self.hidden);
         self.zero_columns.print();
         println!("cells left out            {:>9}  their names are not UTF-8, or hold U+FFFD", self.left_out);
     }

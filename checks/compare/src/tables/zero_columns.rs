@@ -3,7 +3,7 @@
 
 use super::answer::Cell;
 use super::columns::{self, CONSTANT, DATA, KNOWN_TYPES, STORED, STRING};
-use super::exports::{self, CellReply, TableReply};
+use super::exports::{self, CellReply, ColumnReply, TableReply};
 use super::header;
 use super::original::{self, Answer, Table};
 use crate::hex::hex;
@@ -25,13 +25,14 @@ pub struct Counts {
     tables: u64,
     cells: u64,
     zeros: u64,
+    numbered: u64,
 }
 
 impl Counts {
     pub fn print(&self) {
         println!(
-            "zero columns              {:>9}  tables, {} cells, {} of them zero; as the original has them",
-            self.tables, self.cells, self.zeros
+            "zero columns              {:>9}  tables, {} cells, {} of them zero; {} by number; as the original has them",
+            self.tables, self.cells, self.zeros, self.numbered
         );
     }
 }
@@ -135,13 +136,48 @@ fn agree(plan: &Plan, counts: &mut Counts) -> Result<(), String> {
     for name in TEXTS {
         for row in 0..table.rows() + 1 {
             let zero = is_zero(plan, name, row);
-            same_cell(&ours, &table, name, row, zero).map_err(|what| format!("name {name:?}, row {row}: {what}"))?;
+            let found = exports::cell_with_zero_columns(&ours, name.as_bytes(), row);
+            same_cell(&ours, &table, name, row, zero, found)
+                .map_err(|what| format!("name {name:?}, row {row}: {what}"))?;
             counts.cells += 1;
             counts.zeros += u64::from(zero);
         }
     }
+    by_numbers(plan, &ours, &table, counts)?;
     counts.tables += 1;
     Ok(())
+}
+
+/// Every column by its number is the one of the plan, and every cell of the last one of a name is the original's.
+fn by_numbers(plan: &Plan, ours: &[u8], table: &Table, counts: &mut Counts) -> Result<(), String> {
+    for (number, column) in plan.columns.iter().enumerate() {
+        same_column(ours, number, column).map_err(|what| format!("column {number}: {what}"))?;
+        if plan.columns[number + 1..].iter().any(|later| later.name == column.name) {
+            continue;
+        }
+        for row in 0..table.rows() + 1 {
+            let zero = is_zero(plan, column.name, row);
+            let found = exports::cell_at_with_zero_columns(ours, number, row);
+            same_cell(ours, table, column.name, row, zero, found)
+                .map_err(|what| format!("column {number}, row {row}: {what}"))?;
+            counts.numbered += 1;
+        }
+    }
+    Ok(())
+}
+
+fn same_column(ours: &[u8], number: usize, column: &Column) -> Result<(), String> {
+    let found = exports::column_with_zero_columns(ours, number);
+    let ColumnReply { name_start, name_length, .. } = found;
+    let storage = match column.storage {
+        ZERO => 3,
+        STORED => 2,
+        _ => 1,
+    };
+    let type_byte = column.storage | column.kind;
+    same(found, ColumnReply { name_start, name_length, storage, type_byte, ..ColumnReply::default() })?;
+    let name = ours.get(name_start..).and_then(|rest| rest.get(..name_length));
+    same(name, Some(column.name.as_bytes()))
 }
 
 /// Whether the cell is one for which nothing is stored: the last column of the name counts.
@@ -151,8 +187,7 @@ fn is_zero(plan: &Plan, name: &str, row: usize) -> bool {
 }
 
 /// A cell on both sides. A part that is empty since nothing is stored starts at 0.
-fn same_cell(ours: &[u8], table: &Table, name: &str, row: usize, zero: bool) -> Result<(), String> {
-    let found = exports::cell_with_zero_columns(ours, name.as_bytes(), row);
+fn same_cell(ours: &[u8], table: &Table, name: &str, row: usize, zero: bool, found: CellReply) -> Result<(), String> {
     let reply = |kind, value, length| CellReply { kind, value, length, ..CellReply::default() };
     let part = |kind, bytes: &[u8]| {
         let start = if zero || kind == 5 && bytes.is_empty() { 0 } else { found.value };
