@@ -291,10 +291,11 @@ struct usm_column_reply {
 
 /*
  * The column of a number, counted from 0 in the table's order, and its cell in a row; nothing where the table has no such
- * column or row. Only the table's header, that column's record and what is asked for are read, so all cells of a table can be
- * asked for one by one in little time. Whether the table is accepted is for usm_table to say: of one that is not, a column or
- * cell that can be read is given all the same. Of an accepted table usm_cell gives the cell of the last column that has the
- * name (proved).
+ * column or row. Only the table's header, the columns' records and what is asked for are read, so all cells of a table can
+ * be asked for one by one in little time. Whether the table is accepted is for usm_table to say: of one that is not, a column
+ * or cell that can be read is given all the same, and a cell is nothing too where its column's record is refused: the name,
+ * the storage, or the value of a constant. Of an accepted table usm_cell gives the cell of the last column that has the name
+ * (proved).
  */
 struct usm_column_reply usm_column(const uint8_t *bytes, size_t len, size_t place, size_t column,
                                    struct usm_reading reading);
@@ -883,7 +884,8 @@ struct usm_apart_reply {
 /*
  * The first byte at which the streams of a film differ under two keys: of what usm_extract leaves under the one and the
  * other, all bytes of that stream before it are the same and it is not; where it is one of the audio, the video streams
- * are the same; and where no byte is named, both streams are (proved). No stream is unpacked.
+ * are the same; and where no byte is named, both streams are (proved). No stream is unpacked. It needs 1,728 bytes of
+ * stack below its call.
  */
 struct usm_apart_reply usm_apart(const uint8_t *container, size_t len, struct usm_reading reading, uint64_t key,
                                  uint64_t other);
@@ -891,7 +893,8 @@ struct usm_apart_reply usm_apart(const uint8_t *container, size_t len, struct us
 /*
  * The first byte of one payload that usm_clear leaves different under two keys, or `length` where there is none (proved),
  * by the mask and the length that its step gave. The first chunk of the video, or else of the audio, for which this is
- * less than its length is the one that usm_apart names (proved), so a film can be read piece by piece.
+ * less than its length is the one that usm_apart names (proved), so a film can be read piece by piece. It needs 409 bytes
+ * of stack below its call.
  */
 size_t usm_payload_apart(uint8_t mask, size_t length, uint64_t key, uint64_t other);
 
@@ -903,7 +906,7 @@ size_t usm_payload_apart(uint8_t mask, size_t length, uint64_t key, uint64_t oth
 
 /*
  * The reason, for a film that shows `bits` of a key (usm_key_bits, usm_payload_bits). It is USM_DIFFERENT exactly where
- * usm_extract leaves different streams under the two keys (proved).
+ * usm_extract leaves different streams under the two keys (proved). It needs 8 bytes of stack below its call.
  */
 uint8_t usm_why(uint64_t bits, uint64_t key, uint64_t other);
 

@@ -1,7 +1,7 @@
 /*
  * How much stack a player needs: each function of libplayer.a, and of libusm.a those that read a film piece by
- * piece, below its call, return address and callees included. See README.md. The status is 1 where one needs
- * more than include/usm.h says.
+ * piece and those that say what two keys make of it, below its call, return address and callees included. See README.md.
+ * The status is 1 where one needs more than include/usm.h says.
  *
  * A call is made on a stack of its own, which begins at a page that may not be touched. The stack is
  * painted before; the lowest byte that is no longer as painted tells how deep the call went. Then the
@@ -205,6 +205,9 @@ typedef struct usm_step_reply step_act(const uint8_t *, size_t, size_t, size_t, 
 typedef void clear_act(uint64_t, uint8_t, uint8_t *, size_t);
 typedef struct usm_key_bits_reply bits_act(const uint8_t *, size_t, struct usm_reading);
 typedef uint64_t payload_act(uint8_t, size_t);
+typedef struct usm_apart_reply apart_act(const uint8_t *, size_t, struct usm_reading, uint64_t, uint64_t);
+typedef size_t payload_apart_act(uint8_t, size_t, uint64_t, uint64_t);
+typedef uint8_t why_act(uint64_t, uint64_t, uint64_t);
 
 /* What a call is given, the functions that are called, and where their replies go. */
 struct piece {
@@ -219,10 +222,16 @@ struct piece {
     clear_act *volatile clear;
     bits_act *volatile bits;
     payload_act *volatile payload;
+    apart_act *volatile apart;
+    payload_apart_act *volatile payload_apart;
+    why_act *volatile why;
     struct usm_open_reply opened;
     struct usm_step_reply stepped;
     struct usm_key_bits_reply shown;
     uint64_t shown_by_one;
+    struct usm_apart_reply parted;
+    size_t parted_in_one;
+    uint8_t reason;
 };
 
 static struct piece piece;
@@ -251,6 +260,22 @@ static void ask_bits(struct piece *p)
 static void ask_payload_bits(struct piece *p)
 {
     p->shown_by_one = p->payload(p->mask, p->len);
+}
+
+/* A key, and the one that differs from it in every bit. */
+static void ask_apart(struct piece *p)
+{
+    p->parted = p->apart(p->bytes, p->len, p->reading, p->key, ~p->key);
+}
+
+static void ask_payload_apart(struct piece *p)
+{
+    p->parted_in_one = p->payload_apart(p->mask, p->len, p->key, ~p->key);
+}
+
+static void ask_why(struct piece *p)
+{
+    p->reason = p->why(p->len, p->key, ~p->key);
 }
 
 static struct usm_open_reply no_open(const uint8_t *bytes, size_t len, size_t total, struct usm_reading reading)
@@ -282,6 +307,23 @@ static uint64_t no_payload_bits(uint8_t mask, size_t len)
     return mask + len;
 }
 
+static struct usm_apart_reply no_apart(const uint8_t *bytes, size_t len, struct usm_reading reading, uint64_t key,
+                                       uint64_t other)
+{
+    (void)bytes, (void)len, (void)reading, (void)key, (void)other;
+    return piece.parted;
+}
+
+static size_t no_payload_apart(uint8_t mask, size_t len, uint64_t key, uint64_t other)
+{
+    return mask + len + (size_t)(key ^ other);
+}
+
+static uint8_t no_why(uint64_t bits, uint64_t key, uint64_t other)
+{
+    return (uint8_t)(bits ^ key ^ other);
+}
+
 /* A function that takes pieces: how it is called, and what usm.h says that it needs. */
 struct reader {
     const char *name;
@@ -295,6 +337,9 @@ static const struct reader READERS[] = {
     {"usm_clear", ask_clear, 296},
     {"usm_key_bits", ask_bits, 1600},
     {"usm_payload_bits", ask_payload_bits, 8},
+    {"usm_apart", ask_apart, 1728},
+    {"usm_payload_apart", ask_payload_apart, 409},
+    {"usm_why", ask_why, 8},
 };
 
 static void call_functions(int real)
@@ -304,6 +349,9 @@ static void call_functions(int real)
     piece.clear = real ? usm_clear : no_clear;
     piece.bits = real ? usm_key_bits : no_bits;
     piece.payload = real ? usm_payload_bits : no_payload_bits;
+    piece.apart = real ? usm_apart : no_apart;
+    piece.payload_apart = real ? usm_payload_apart : no_payload_apart;
+    piece.why = real ? usm_why : no_why;
 }
 
 /* A way to make one call of a reader with the piece as it is. */
@@ -356,13 +404,15 @@ static void visit_films(const struct reader *reader, visit *does, void *state)
         piece.bytes = made.bytes;
         piece.len = made.len;
         piece.reading = reading_by_chance(&chance);
+        piece.key = KEYS[number % COUNT(KEYS)];
         visit_film(reader, does, state);
     }
 }
 
 static void visit_all(const struct reader *reader, visit *does, void *state)
 {
-    if (reader->ask == ask_clear || reader->ask == ask_payload_bits)
+    if (reader->ask == ask_clear || reader->ask == ask_payload_bits || reader->ask == ask_payload_apart ||
+        reader->ask == ask_why)
         visit_payloads(reader, does, state);
     else
         visit_films(reader, does, state);
