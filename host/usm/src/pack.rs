@@ -84,6 +84,19 @@ impl<'a> Lengths<'a> {
     pub fn with_codecs(self, video_codec: Option<u32>, audio_codec: Option<u32>) -> Lengths<'a> {
         Lengths { video_codec, audio_codec, ..self }
     }
+
+    /// What [`pack_to`] refuses before it reads or writes a byte: lengths, name and codecs that make no film.
+    pub fn check(self) -> Result<(), Refusal> {
+        size_of(|header| self.open(None, header)).map(|_| ())
+    }
+
+    fn open(self, key: Option<u64>, header: &mut Vec<u8>) -> SizeReply {
+        ffi::write_open(self.name, self.video, self.audio.unwrap_or(0), self.packing(key), header)
+    }
+
+    fn packing(self, key: Option<u64>) -> ffi::Packing {
+        packing(key, self.audio.is_some(), self.video_codec, self.audio_codec)
+    }
 }
 
 /// Packs streams into a film: masked under a key, or as they are without one. [`extract`](crate::extract) under the same
@@ -123,8 +136,11 @@ pub fn packed_size(streams: Streams) -> Result<usize, Refusal> {
 /// many bytes were written. The film is that of [`pack`] for the same streams (proved of its pieces). As many bytes are
 /// read of each stream as its length says, and audio only where it has one; a reader that ends before gives its error.
 ///
-/// What is refused of the lengths, the name and the codecs is refused before a byte is written. A payload that begins with
-/// the mark of an end is refused when its turn comes: what was written by then is no film.
+/// What is refused of the lengths, the name and the codecs is refused before a byte is written, and by [`Lengths::check`]. A
+/// payload that begins with the mark of an end is refused when its turn comes: what was written by then is no film.
+///
+/// Header, ends and each chunk are written by one call each, and each payload is read by one: readers and writers need no
+/// buffers of their own.
 ///
 /// ```
 /// use usm::{Lengths, Streams};
@@ -144,7 +160,7 @@ pub fn pack_to(
     mut audio: impl Read,
     mut film: impl Write,
 ) -> Result<u64, Error> {
-    let packing = packing(key, lengths.audio.is_some(), lengths.video_codec, lengths.audio_codec);
+    let packing = lengths.packing(key);
     let (video_len, audio_len) = (lengths.video, lengths.audio.unwrap_or(0));
     let mut written = 0;
     let mut put = |bytes: &[u8]| -> Result<(), Error> {
@@ -152,23 +168,26 @@ pub fn pack_to(
         Ok(film.write_all(bytes)?)
     };
 
-    put(&filled(|header| ffi::write_open(lengths.name, video_len, audio_len, packing, header))?)?;
-    let (mut head, mut payload, mut turn) = ([0; ffi::HEAD_BYTES], Vec::new(), 0);
+    put(&filled(|header| lengths.open(key, header))?)?;
+    // A chunk is written by one call: its payload is read to where it stands behind the head.
+    let (mut head, mut chunk, mut turn) = ([0; ffi::HEAD_BYTES], Vec::new(), 0);
     loop {
         let next = ffi::write_chunk(video_len, audio_len, turn, packing, &mut head);
         if next.found != 1 {
             break;
         }
-        make_room(&mut payload, next.length)?;
-        payload.resize(next.length, 0);
+        let payload_end = head.len() + next.length;
+        make_room(&mut chunk, payload_end + next.padding)?;
+        chunk.resize(payload_end + next.padding, 0);
+        chunk[..head.len()].copy_from_slice(&head);
+        let payload = &mut chunk[head.len()..payload_end];
         match kind_of(next.kind) {
-            ChunkKind::Video => video.read_exact(&mut payload)?,
-            _ => audio.read_exact(&mut payload)?,
+            ChunkKind::Video => video.read_exact(payload)?,
+            _ => audio.read_exact(payload)?,
         }
-        check(ffi::write_payload(packing.key.number, next.mask, &mut payload))?;
-        put(&head)?;
-        put(&payload)?;
-        put(&[0; ffi::HEAD_BYTES][..next.padding])?;
+        check(ffi::write_payload(packing.key.number, next.mask, payload))?;
+        chunk[payload_end..].fill(0);
+        put(&chunk)?;
         turn = next.next;
     }
     put(&filled(|ends| ffi::write_end(packing, ends))?)?;

@@ -1,5 +1,5 @@
 //! What a reader takes of memory: a window, and the longest masked payload where one is made clear. A film of any length
-//! passes through it.
+//! passes through it. What is packed takes a chunk.
 
 use std::alloc::{GlobalAlloc, Layout, System};
 use std::io::{self, Read, Seek, SeekFrom};
@@ -7,7 +7,7 @@ use std::sync::Mutex;
 use std::sync::atomic::{AtomicUsize, Ordering};
 
 use films::{Film, Header};
-use usm::{Audio, Reader, Reading};
+use usm::{Audio, Lengths, Reader, Reading};
 
 /// The system's memory, counted.
 struct Counting;
@@ -158,4 +158,17 @@ fn an_index_takes_its_entries() {
         assert_eq!(reader.index().unwrap().len(), chunks);
     });
     assert!(most <= WINDOW + 4 * 24 * chunks, "{most}");
+}
+
+#[test]
+fn packing_takes_a_chunk() {
+    let _alone = ALONE.lock();
+    let chunk = 65_536 + 32;
+    for bytes in [100_000, 100_000_000] {
+        let lengths = Lengths::new(b"lark", bytes).with_audio(bytes).with_codecs(None, Some(2));
+        let most = most_of(|| {
+            usm::pack_to(lengths, Some(1), io::repeat(1), io::repeat(2), io::sink()).unwrap();
+        });
+        assert!((chunk..=chunk + BESIDE).contains(&most), "{bytes}: {most}");
+    }
 }

@@ -1,6 +1,6 @@
 //! Films packed piece by piece, beside those that are packed whole.
 
-use std::io::{self, Read};
+use std::io::{self, Read, Write};
 
 use usm::{Error, Lengths, Reason, Streams};
 
@@ -44,6 +44,47 @@ fn what_is_refused_whole_is_refused_by_pieces() {
     assert_eq!(why(Lengths::new(b"", usize::MAX), &[]), Reason::TooLong);
     let late = [stream(65_536, 1), b"#CONTENTS END".to_vec()].concat();
     assert_eq!(why(Lengths::new(b"", late.len()), &late), Reason::MarkedPayload);
+}
+
+/// What is refused of lengths is refused before, and only that.
+#[test]
+fn lengths_are_checked_before() {
+    let why = |lengths: Lengths| lengths.check().map_err(|refusal| refusal.reason);
+    assert_eq!(why(Lengths::new(b"lark", 100_000).with_audio(0).with_codecs(None, Some(2))), Ok(()));
+    assert_eq!(why(Lengths::new(b"", 0).with_codecs(None, Some(2))), Err(Reason::CodecAlone));
+    assert_eq!(why(Lengths::new(b"", 1 << 30)), Err(Reason::TooLong));
+    assert_eq!(why(Lengths::new(b"", 0).with_audio(1 << 30)), Err(Reason::TooLong));
+}
+
+/// Counts the calls of what it reads from or writes to.
+struct Counted<T>(T, usize);
+
+impl<T: Read> Read for Counted<T> {
+    fn read(&mut self, room: &mut [u8]) -> io::Result<usize> {
+        self.1 += 1;
+        self.0.read(room)
+    }
+}
+
+impl<T: Write> Write for Counted<T> {
+    fn write(&mut self, bytes: &[u8]) -> io::Result<usize> {
+        self.1 += 1;
+        self.0.write(bytes)
+    }
+
+    fn flush(&mut self) -> io::Result<()> {
+        self.0.flush()
+    }
+}
+
+#[test]
+fn a_chunk_takes_one_call_to_read_and_one_to_write() {
+    let (video, audio) = (stream(200_000, 1), stream(70_001, 2));
+    let (mut pictures, mut sound, mut film) = (Counted(&video[..], 0), Counted(&audio[..], 0), Counted(io::sink(), 0));
+    let lengths = Lengths::new(b"", video.len()).with_audio(audio.len());
+    usm::pack_to(lengths, Some(1), &mut pictures, &mut sound, &mut film).unwrap();
+    // Four payloads and two, and beside their chunks the header and the ends.
+    assert_eq!((pictures.1, sound.1, film.1), (4, 2, 4 + 2 + 2));
 }
 
 #[test]

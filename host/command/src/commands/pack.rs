@@ -1,13 +1,15 @@
 //! `usm pack`: streams into a film.
 
 use std::ffi::OsString;
-use std::io::{IsTerminal, Write};
+use std::fs::File;
+use std::io::{self, IsTerminal};
+use std::os::fd::AsFd;
 use std::os::unix::ffi::OsStrExt;
 use std::path::PathBuf;
 
 use clap::{Args, ValueHint};
 use serde::Serialize;
-use usm::Streams;
+use usm::Lengths;
 
 use crate::files::identity::FileId;
 use crate::files::staged::{Replacing, StagedFiles};
@@ -17,7 +19,7 @@ use crate::output::json::{About, FailedFilm};
 use crate::output::text::Shown;
 use crate::output::{Error, Status};
 use crate::output::{Output, print_to, report, report_error, write_all};
-use crate::run::input::make_room;
+use crate::run::packing::OpenStreams;
 use crate::run::progress::{Meter, Progress};
 use crate::run::sources::{Origin, Source};
 
@@ -71,10 +73,11 @@ impl Pack {
         if is_input(&video) && audio.as_ref().is_some_and(is_input) {
             return report(Status::Failed, "standard input can't be both streams");
         }
-        let sources = [Some(video), audio];
-        let total: Option<u64> = sources.iter().flatten().map(|source| source.length).sum();
+        let total: Option<u64> = std::iter::once(&video).chain(&audio).map(|source| source.length).sum();
         let progress = Progress::new(total);
-        let packed = self.pack(key, &sources, &Meter::new(&progress, 2, total.unwrap_or(0)));
+        let meter = Meter::new(&progress, self.readings(), total.unwrap_or(0));
+        let packed = OpenStreams::open(&video, audio.as_ref(), &meter).and_then(|streams| self.pack(key, streams));
+        drop(meter);
         progress.end();
         match packed {
             Ok(_) if self.is_to_output() => Status::Success,
@@ -83,35 +86,31 @@ impl Pack {
         }
     }
 
-    /// Reads video and audio, writes the film, and gives it its name.
-    fn pack(&self, key: Option<u64>, sources: &[Option<Source>; 2], meter: &Meter) -> Result<Sizes, Error> {
-        let mut streams = [const { Vec::new() }; 2];
-        for (source, stream) in sources.iter().zip(&mut streams) {
-            if let Some(source) = source {
-                let read = source.open().and_then(|mut input| input.read_all(stream, meter));
-                read.map_err(|error| error.of(&source.label))?;
-            }
-        }
-        let [video, audio] = &streams;
-        let mut packed = Streams::new(self.name(), video).with_codecs(self.codecs.video_codec, self.codecs.audio_codec);
-        if self.audio.is_some() {
-            packed = packed.with_audio(audio);
-        }
-        let mut film = Vec::new();
-        make_room(&mut film, usm::packed_size(packed)?)?;
-        usm::pack_into(packed, key, &mut film)?;
-        let sizes = Sizes { film: film.len(), video: video.len(), audio: self.audio.as_ref().map(|_| audio.len()) };
-        if self.is_to_output() {
-            write_film(&film)?;
-            return Ok(sizes);
-        }
+    /// Reads the streams while it writes the film, which gets its name when it is complete.
+    fn pack(&self, key: Option<u64>, mut streams: OpenStreams) -> Result<Sizes, Error> {
+        let lengths = streams.lengths(self.name()).with_codecs(self.codecs.video_codec, self.codecs.audio_codec);
+        lengths.check()?;
+        let film = if self.is_to_output() {
+            print_film(&mut streams, lengths, key)?
+        } else {
+            self.write_film(&mut streams, lengths, key)?
+        };
+        Ok(Sizes { film, video: lengths.video, audio: lengths.audio })
+    }
+
+    /// Writes the film to its file. Where that fails nothing is left of it.
+    fn write_film(&self, streams: &mut OpenStreams, lengths: Lengths, key: Option<u64>) -> Result<u64, Error> {
         let mut staged = StagedFiles::new(!self.no_sync);
-        staged.write(self.output.clone(), &film)?;
-        meter.advance(film.len() as u64);
-        let is_stream = |id: FileId| sources.iter().flatten().any(|source| source.id == Some(id));
-        let is_kept = |id: FileId| is_stream(id).then(|| "it is one of the streams".to_string());
+        let file = staged.create(self.output.clone())?;
+        let size = streams.pack(lengths, key, file, |error| Error::with(&self.output, error))?;
+        let is_kept = |id: FileId| streams.have(id).then(|| "it is one of the streams".to_string());
         staged.place(&Replacing { force: self.force, is_kept: &is_kept })?;
-        Ok(sizes)
+        Ok(size)
+    }
+
+    /// How often the streams are read.
+    fn readings(&self) -> u64 {
+        if self.is_to_output() { 2 } else { 1 }
     }
 
     /// Whether the film goes to standard output, where nothing else is printed then.
@@ -148,19 +147,23 @@ impl Pack {
     }
 }
 
-/// Writes a film to standard output, which must not be a terminal.
-fn write_film(film: &[u8]) -> Result<(), Error> {
-    if std::io::stdout().is_terminal() {
+/// Writes the film to standard output, which must not be a terminal. Nothing can be taken back there, so that all payloads
+/// are looked at before: the streams are read twice.
+fn print_film(streams: &mut OpenStreams, lengths: Lengths, key: Option<u64>) -> Result<u64, Error> {
+    streams.pack(lengths, None, io::sink(), Error::Output)?;
+    let output = io::stdout();
+    if output.is_terminal() {
         return Err(Error::System("standard output is a terminal: a film is not for it".to_string()));
     }
-    let mut output = std::io::stdout().lock();
-    output.write_all(film).and_then(|()| output.flush()).map_err(Error::Output)
+    // The film's pieces are long, and lines are nothing to it: they go to the file as they are.
+    let file = output.as_fd().try_clone_to_owned().map(File::from).map_err(Error::Output)?;
+    streams.pack(lengths, key, file, Error::Output)
 }
 
 #[derive(Serialize)]
 struct Sizes {
     #[serde(rename = "bytes")]
-    film: usize,
+    film: u64,
     #[serde(rename = "video_bytes")]
     video: usize,
     #[serde(rename = "audio_bytes")]

@@ -144,6 +144,14 @@ impl Input {
         }
     }
 
+    /// Said where a file is over before its length is reached.
+    pub fn shrank(&self) -> Error {
+        match self {
+            Input::File { start, length, place, .. } => shrank(place.saturating_sub(*start), *length),
+            _ => shrank(self.length(), self.length()),
+        }
+    }
+
     /// A file that has grown since it was opened is still being written.
     pub fn check_end(&self) -> Result<(), Error> {
         let Input::File { file, start, length, .. } = self else { return Ok(()) };
@@ -193,14 +201,15 @@ fn read_file(file: &mut File, length: u64, bytes: &mut Vec<u8>, meter: &Meter) -
     while (bytes.len() as u64) < length {
         let left = length - bytes.len() as u64;
         match file.take(left.min(PIECE)).read_to_end(bytes).map_err(Error::io)? {
-            0 => {
-                let left = bytes.len();
-                return Err(Error::System(format!("it shrank while it was read: {left} of {length} bytes are left")));
-            }
+            0 => return Err(shrank(bytes.len() as u64, length)),
             count => meter.advance(count as u64),
         }
     }
     Ok(())
+}
+
+fn shrank(left: u64, length: u64) -> Error {
+    Error::System(format!("it shrank while it was read: {left} of {length} bytes are left"))
 }
 
 /// Reads a pipe or a device to its end, or to the first byte that is too many.

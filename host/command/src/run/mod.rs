@@ -5,6 +5,7 @@ pub mod gate;
 pub mod input;
 pub mod lists;
 pub mod outcomes;
+pub mod packing;
 pub mod progress;
 pub mod rewrite;
 pub mod sources;

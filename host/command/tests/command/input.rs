@@ -77,7 +77,10 @@ fn the_longest_film_and_one_byte_more() {
 }
 
 /// A file of the kernel that claims 4096 bytes and has fewer, as one that shrinks between two looks.
-const SHRINKING: &str = "/sys/kernel/mm/transparent_hugepage/enabled";
+pub const SHRINKING: &str = "/sys/kernel/mm/transparent_hugepage/enabled";
+
+/// One that claims to be empty and is not, as one that grows.
+pub const GROWING: &str = "/proc/self/status";
 
 #[test]
 fn a_film_that_shrinks_or_grows_while_it_is_read() {
@@ -86,9 +89,8 @@ fn a_film_that_shrinks_or_grows_while_it_is_read() {
     let left = fs::read(SHRINKING).unwrap().len();
     let run = folder.usm(&["info", SHRINKING]);
     run.expect(2, "", &format!("usm: {SHRINKING}: it shrank while it was read: {left} of 4096 bytes are left\n"));
-    let growing = "/proc/self/status";
-    let run = folder.usm(&["info", growing]);
-    run.expect(2, "", &format!("usm: {growing}: it grew while it was read: it had 0 bytes\n"));
+    let run = folder.usm(&["info", GROWING]);
+    run.expect(2, "", &format!("usm: {GROWING}: it grew while it was read: it had 0 bytes\n"));
 }
 
 #[test]

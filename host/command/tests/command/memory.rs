@@ -93,15 +93,31 @@ fn a_table_that_reaches_over_the_chunks() {
 }
 
 #[test]
-fn packing_takes_film_and_streams() {
+fn packing_takes_a_window() {
     let folder = Folder::new();
     folder.write("video", &vec![1; 150 * MIB]);
     folder.write("audio", &vec![2; 50 * MIB]);
-    let most = 2 * 201 * MIB + 64 * MIB;
-    assert_eq!(with_memory(&folder, most, "pack video audio -o film.usm -k 1 --audio-codec 2"), (0, String::new()));
-    let (status, err) = with_memory(&folder, 250 * MIB, "pack video audio -o other.usm");
+    for words in [
+        "pack video audio -o film.usm -k 1 --audio-codec 2",
+        "pack video audio -o other.usm",
+        "pack - audio -o third.usm < video",
+        "pack video audio -o - -k 1",
+    ] {
+        assert_eq!(with_memory(&folder, WINDOW, words), (0, String::new()), "{words}");
+    }
+}
+
+#[test]
+fn a_stream_by_a_pipe_takes_its_length() {
+    let folder = Folder::new();
+    folder.write("video", &vec![1; 150 * MIB]);
+    folder.write("audio", b"sound");
+    let words = "pack - audio -o film.usm -k 1 < <(cat video)";
+    assert_eq!(with_memory(&folder, 150 * MIB + 16 * MIB + WINDOW, words), (0, String::new()));
+    let (status, err) = with_memory(&folder, 100 * MIB, &words.replace("film.usm", "other.usm"));
     assert_eq!(status, 2);
-    assert!(err.starts_with("usm: no memory for "), "{err}");
+    assert!(err.starts_with("usm: -: no memory for "), "{err}");
+    assert_eq!(folder.names(), ["audio", "film.usm", "video"]);
 }
 
 #[test]

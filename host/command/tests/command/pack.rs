@@ -1,3 +1,9 @@
+use std::fs;
+
+use usm::Streams;
+
+use crate::bill::stream;
+use crate::input::{GROWING, SHRINKING};
 use crate::support::{Folder, KEY, SmallDisk, example, names};
 
 /// A folder with the clear streams of the song: video and audio.
@@ -23,6 +29,60 @@ fn what_is_packed_is_extracted() {
     assert_eq!(folder.read("lark.adx"), example("song.audio"));
     assert_eq!(folder.usm(&["extract", "lark.usm", "-q", "-o", "stored"]).status, 0);
     assert_ne!(folder.read("stored/lark.m2v"), example("song.video"), "it is masked");
+}
+
+/// Lengths around those of a payload and of what chunks are padded to.
+const LENGTHS: [usize; 9] = [0, 1, 31, 32, 33, 65_535, 65_536, 65_537, 200_001];
+
+/// A film of files is, byte for byte, that of the function that packs streams in memory.
+#[test]
+fn a_film_of_files_is_that_of_streams_in_memory() {
+    let folder = Folder::new();
+    for video_bytes in LENGTHS {
+        let video = stream(1, video_bytes);
+        folder.write("video", &video);
+        for audio_bytes in LENGTHS.map(Some).into_iter().chain([None]) {
+            let audio = audio_bytes.map(|bytes| stream(2, bytes));
+            audio.iter().for_each(|audio| drop(folder.write("audio", audio)));
+            for (key, words) in [(None, ""), (Some(0), "-k 0"), (Some(0x0123_4567_89AB_CDEF), "-k 123456789ABCDEF")] {
+                let mut streams = Streams::new(b"lark", &video).with_codecs(Some(9), None);
+                let mut line =
+                    format!("pack video -o film.usm --force --no-sync -q --name lark --video-codec 9 {words}");
+                if let Some(audio) = &audio {
+                    streams = streams.with_audio(audio).with_codecs(Some(9), Some(2));
+                    line.push_str(" --audio-codec 2 audio");
+                }
+                folder.usm(&line.split(' ').filter(|word| !word.is_empty()).collect::<Vec<_>>()).expect(0, "", "");
+                let film = usm::pack(streams, key).unwrap();
+                assert!(folder.read("film.usm") == film, "{line}: {video_bytes} {audio_bytes:?}");
+            }
+        }
+    }
+}
+
+/// Wherever streams come from and the film goes, it is the same.
+#[test]
+fn by_pipes_and_from_the_middle_of_a_file() {
+    let folder = Folder::new();
+    folder.write("video", &stream(1, 200_001));
+    folder.write("audio", &stream(2, 70_000));
+    folder.write("two", &[b"in front".to_vec(), stream(1, 200_001)].concat());
+    let pack = "$USM pack -q --no-sync --name x -k 5 --audio-codec 2";
+    folder.shell(&format!("{pack} video audio -o film")).expect(0, "", "");
+    for line in [
+        "PACK - audio -o a < video",
+        "PACK - audio -o b < <(cat video)",
+        "PACK video - -o c < <(cat audio)",
+        "(head -c 8 > /dev/null; PACK - audio -o d) < two",
+        "mkfifo v s; (cat video > v; cat audio > s) & PACK v s -o e",
+        "PACK video audio -o - > f",
+        "PACK - audio -o - < <(cat video) | cat > g",
+    ] {
+        folder.shell(&line.replace("PACK", pack)).expect(0, "", "");
+    }
+    for name in ["a", "b", "c", "d", "e", "f", "g"] {
+        assert!(folder.read(name) == folder.read("film"), "{name}");
+    }
 }
 
 #[test]
@@ -80,6 +140,71 @@ fn what_can_not_be_packed() {
     assert_eq!(folder.names(), ["audio", "marked", "video"]);
 }
 
+/// A payload far into a stream is refused when its turn comes: nothing is left of the film, and on standard output
+/// nothing was written.
+#[test]
+fn what_is_refused_late_leaves_nothing() {
+    let folder = with_streams();
+    folder.write("marked", &[stream(1, 2 * 65_536), b"#CONTENTS END".to_vec()].concat());
+    folder.write("film.usm", b"mine");
+    let refused = |film: &str| format!("usm: {film}: refused 15 at 0: a payload begins with the end marker\n");
+    for words in ["video marked -k 1 --audio-codec 2", "marked audio", "marked"] {
+        folder.shell(&format!("$USM pack {words} -o a.usm")).expect(1, "", &refused("a.usm"));
+        folder.shell(&format!("$USM pack {words} -o film.usm --force")).expect(1, "", &refused("film.usm"));
+        folder.shell(&format!("$USM pack {words} -o -")).expect(1, "", &refused("-"));
+        folder.shell(&format!("$USM pack - -o - < <(cat marked)")).expect(1, "", &refused("-"));
+    }
+    assert_eq!(folder.read("film.usm"), b"mine");
+    assert_eq!(folder.names(), ["audio", "film.usm", "marked", "video"]);
+}
+
+/// What lengths and codecs refuse is refused before a file is begun.
+#[test]
+fn a_refusal_comes_before_the_file() {
+    let folder = with_streams();
+    let alone = "usm: none/a.usm: refused 23 at 0: an audio codec without audio\n";
+    folder.usm(&["pack", "video", "-o", "none/a.usm", "--audio-codec", "2"]).expect(1, "", alone);
+    let none = "usm: none/a.usm: No such file or directory (os error 2)\n";
+    folder.usm(&["pack", "video", "-o", "none/a.usm"]).expect(2, "", none);
+}
+
+/// Each error names the file that it is of: a stream or the film.
+#[test]
+fn streams_that_change_or_can_not_be_read() {
+    let folder = with_streams();
+    fs::create_dir(folder.path("folder")).unwrap();
+    let left = fs::read(SHRINKING).unwrap().len();
+    for (changing, what) in [
+        (SHRINKING, &*format!("it shrank while it was read: {left} of 4096 bytes are left")),
+        (GROWING, "it grew while it was read: it had 0 bytes"),
+        ("folder", "Is a directory (os error 21)"),
+        ("none", "No such file or directory (os error 2)"),
+        ("/proc/self/mem", "Input/output error (os error 5)"),
+    ] {
+        let err = format!("usm: {changing}: {what}\n");
+        for output in ["a.usm", "-"] {
+            folder.usm(&["pack", changing, "audio", "-o", output]).expect(2, "", &err);
+            folder.usm(&["pack", "video", changing, "-o", output]).expect(2, "", &err);
+        }
+    }
+    assert_eq!(folder.names(), ["audio", "folder", "video"]);
+}
+
+/// A signal that comes in the middle of the film, here at its byte 1,024,000, leaves nothing of it.
+#[test]
+fn a_run_that_is_killed_leaves_nothing() {
+    let folder = Folder::new();
+    folder.write("video", &stream(1, 3_000_000));
+    folder.write("film.usm", b"mine");
+    let killed = |words: &str| folder.shell(&format!("ulimit -c 0; ulimit -f 1000; $USM pack video {words}; echo $?"));
+    for words in ["-o a.usm", "-o film.usm --force"] {
+        let run = killed(words);
+        assert_eq!(run.out, "153\n", "by SIGXFSZ: {run:?}");
+    }
+    assert_eq!(folder.read("film.usm"), b"mine");
+    assert_eq!(folder.names(), ["film.usm", "video"]);
+}
+
 #[test]
 fn the_longest_film_and_one_that_is_too_long() {
     let folder = Folder::new();
@@ -133,4 +258,8 @@ fn a_full_disk_leaves_no_film() {
     let full = "usm: disk/a.usm: No space left on device (os error 28)\n";
     folder.usm(&["pack", "video", "-o", "disk/a.usm"]).expect(2, "", full);
     assert_eq!(names(&folder.path("disk")), [""; 0]);
+    folder.write("disk/a.usm", b"mine");
+    folder.usm(&["pack", "video", "video", "-k", "1", "-o", "disk/a.usm", "--force"]).expect(2, "", full);
+    assert_eq!(folder.read("disk/a.usm"), b"mine");
+    assert_eq!(names(&folder.path("disk")), ["a.usm"]);
 }
