@@ -211,6 +211,10 @@ def cases():
     def streams(folder, tools):
         fill_films(folder, tools, "song.video", "song.audio")
 
+    def long_streams(folder, tools):
+        fill_large(folder, tools)
+        fill_films(folder, tools, "song.audio")
+
     def streams_again(folder, tools):
         streams(folder, tools)
         fill_outputs(folder, "film.usm")
@@ -241,6 +245,7 @@ def cases():
         Case("extract many", ["extract", "-j", "2", "films", "--tree", "-o", "out", "--summary", "--failed", "failed", "--force"], many, group=stem, list="failed"),
         Case("extract one stream", ["extract", "song.usm", "--video", "picture", "--audio", "sound"], song),
         Case("pack", ["pack", "song.video", "song.audio", "-o", "film.usm", "-k", KEY], streams),
+        Case("pack of many payloads", ["pack", "film0000.usm", "song.audio", "-o", "film.usm", "-k", KEY], long_streams),
         Case("pack by force", ["pack", "song.video", "song.audio", "-o", "film.usm", "--force"], streams_again),
         Case("salvage", ["salvage", "cut.usm"], cut),
         Case("from-old", ["from-old", "old.usm", "-o", "out"], lambda folder, tools: fill_films(folder, tools, "old.usm")),

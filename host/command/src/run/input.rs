@@ -1,7 +1,7 @@
 //! A film that is open, and how its bytes are read.
 
 use std::fs::File;
-use std::io::{self, Cursor, Read, Seek, SeekFrom};
+use std::io::{self, Cursor, ErrorKind, Read, Seek, SeekFrom};
 use std::os::fd::AsFd;
 use std::os::unix::fs::FileExt;
 use std::path::Path;
@@ -155,9 +155,9 @@ impl Input {
     /// A file that has grown since it was opened is still being written.
     pub fn check_end(&self) -> Result<(), Error> {
         let Input::File { file, start, length, .. } = self else { return Ok(()) };
-        match file.read_at(&mut [0], start + length) {
-            Ok(0) => Ok(()),
-            Ok(_) => Err(Error::System(format!("it grew while it was read: it had {length} bytes"))),
+        match file.read_exact_at(&mut [0], start + length) {
+            Ok(()) => Err(Error::System(format!("it grew while it was read: it had {length} bytes"))),
+            Err(error) if error.kind() == ErrorKind::UnexpectedEof => Ok(()),
             Err(error) => Err(Error::io(error)),
         }
     }
