@@ -152,8 +152,8 @@ fn what_is_refused_late_leaves_nothing() {
         folder.shell(&format!("$USM pack {words} -o a.usm")).expect(1, "", &refused("a.usm"));
         folder.shell(&format!("$USM pack {words} -o film.usm --force")).expect(1, "", &refused("film.usm"));
         folder.shell(&format!("$USM pack {words} -o -")).expect(1, "", &refused("-"));
-        folder.shell(&format!("$USM pack - -o - < <(cat marked)")).expect(1, "", &refused("-"));
     }
+    folder.shell("$USM pack - -o - < <(cat marked)").expect(1, "", &refused("-"));
     assert_eq!(folder.read("film.usm"), b"mine");
     assert_eq!(folder.names(), ["audio", "film.usm", "marked", "video"]);
 }
