@@ -1,6 +1,8 @@
 // A block of the header: four letters, a size, and inside it a table or a marker. Each refusal has the block's start as its place.
 // Rules H. From the Rust: `seek_and_check_signature`, `align_stream`, and what `parse_usm_header`,
 // `parse_usm_header_chunks` and `skip_metadata_section` do with each block.
+#![tactic(auto)]
+
 ghost use Rattle.std.specs.Prelude.{◌≡◌, ◌+◌, ◌≤◌, ◌<◌, ◌^◌, length};
 ghost use Rattle.signature.specs.Signatures.{filename};
 ghost use Rattle.table.specs.Tables.{table_at};
@@ -15,28 +17,28 @@ use refusal::{Cause, Refusal};
 use table::TableAnswer;
 
 // Where the next block stands, or why not.
-#[derive(Drop)]
+#[derive(Clone, Copy)]
 pub enum BlockAnswer {
     Next(usize),
     NoBlock(Refusal),
 }
 
 // The codec that a block's table gives, and where the next block stands.
-#[derive(Drop)]
+#[derive(Clone, Copy)]
 pub enum CodecBlock {
     Coded { codec: Codec, next: usize },
     NoCodec(Refusal),
 }
 
 // The name that the first block's table gives, and where the next block stands.
-#[derive(Drop)]
+#[derive(Clone, Copy)]
 pub enum NameBlock {
     Named { name: Name, next: usize },
     NoName(Refusal),
 }
 
 // What stands next: `@SFA`, other letters, or fewer than four bytes.
-#[derive(Drop)]
+#[derive(Clone, Copy)]
 pub enum Ahead {
     Sound,
     Other,

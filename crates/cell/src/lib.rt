@@ -1,5 +1,7 @@
 // A cell of an @UTF table: its type's width, its value, its text or data in the table's body, and the cell as numbers.
 // Rules T. From the Rust: `read_column_data`, `read_cstring`.
+#![tactic(auto)]
+
 ghost use Rattle.std.specs.Prelude.{◌≡◌, ◌+◌, ◌≤◌, ◌<◌, ◌^◌, length};
 ghost use Rattle.std.specs.Float.{binary32};
 ghost use Rattle.std.specs.Float.Ieee.{to_bits};
@@ -13,7 +15,7 @@ use layout::{BODY, Layout};
 use refusal::Cause;
 
 // What a cell holds. A float whose bits are a NaN's keeps its bits. Parts are parts of the table's body.
-#[derive(Drop)]
+#[derive(Clone, Copy)]
 pub enum Cell {
     Nothing,
     Unsigned(u64),
@@ -25,14 +27,14 @@ pub enum Cell {
 }
 
 // A cell, or why there is none.
-#[derive(Drop)]
+#[derive(Clone, Copy)]
 pub enum CellAnswer {
     Got(Cell),
     Refused(Cause),
 }
 
 // Where a text ends: at its zero byte, or nowhere in the body.
-#[derive(Drop)]
+#[derive(Clone, Copy)]
 pub enum Ending {
     At(usize),
     Endless,

@@ -1,5 +1,7 @@
 // One chunk of a container, and its payload as a part of the container. Rules C.
 // From the Rust: `read_chunk_header`, `read_data_len`, and which chunks `extract_usm_chunks_to_memory` takes.
+#![tactic(auto)]
+
 ghost use Rattle.std.specs.Prelude.{◌≡◌, ◌+◌, ◌-◌, ◌≤◌, ◌<◌, ◌^◌, length};
 ghost use Rattle.signature.specs.Signatures.{contents_end, stands_at};
 ghost use Rattle.chunk.specs.Openings.{kind_at, opening_at};
@@ -10,7 +12,7 @@ use reading::{Applied, PayloadMode};
 use refusal::{Cause, Refusal};
 
 // What a chunk is.
-#[derive(Drop)]
+#[derive(Clone, Copy)]
 pub enum Kind {
     Video,
     Audio,
@@ -19,7 +21,7 @@ pub enum Kind {
 }
 
 // What the opening of a chunk says: what it is, the sizes of its block, header and footer, its channel, its data type.
-#[derive(Drop)]
+#[derive(Clone, Copy)]
 pub struct Opening {
     pub kind: Kind,
     pub block: u32,
@@ -31,7 +33,7 @@ pub struct Opening {
 
 // A chunk: where it starts, what it is, its channel, its data type, where the next one starts, where its payload starts and
 // how long that is (0 if it is skipped).
-#[derive(Drop)]
+#[derive(Clone, Copy)]
 pub struct Chunk {
     pub start: usize,
     pub kind: Kind,
@@ -43,7 +45,7 @@ pub struct Chunk {
 }
 
 // What stands at a place: the end of all chunks, a chunk, or why there is none.
-#[derive(Drop)]
+#[derive(Clone, Copy)]
 pub enum ChunkStep {
     Over,
     Found(Chunk),
@@ -51,7 +53,7 @@ pub enum ChunkStep {
 }
 
 // What a window says of a place: the step there, or that it is too short to say.
-#[derive(Drop)]
+#[derive(Clone, Copy)]
 pub enum Stepped {
     More,
     Step(ChunkStep),

@@ -1,5 +1,7 @@
 // From the bytes of a container to lines of text: one for each chunk, or the one of the refusal.
 // Rules C: what the program prints. No function of the Rust prints. `chunks_print` reads and writes.
+#![tactic(auto)]
+
 ghost use Rattle.std.specs.Prelude.{◌≡◌, ◌+◌, ◌≤◌, ◌<◌, ◌^◌, length};
 ghost use Rattle.std.proofs.lemmas.List.Edits.{sets};
 ghost use Rattle.laws.specs.Outputs.{Put};

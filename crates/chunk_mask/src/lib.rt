@@ -1,5 +1,7 @@
 // Which mask the payload of a chunk has. Rule C7, without the key.
 // From the Rust: the masks that `extract_usm_to_memory` chooses.
+#![tactic(auto)]
+
 ghost use Rattle.std.specs.Prelude.{◌≡◌};
 ghost use Rattle.chunk_mask.specs.ChunkMasks.{mask_of};
 

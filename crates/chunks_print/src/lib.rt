@@ -2,7 +2,9 @@
 //
 // No contract can say what is written, so the functions here have none. What is written is decided by
 // `chunk_lines::lines`, which has one.
-use libc::{STDIN_FILENO, STDOUT_FILENO};
+#![tactic(auto)]
+
+use descriptors::{STDIN_FILENO, STDOUT_FILENO};
 
 // One byte more than a container may have here, so that a longer one is seen to be longer.
 const ROOM: usize = chunk_lines::LONGEST + 1;

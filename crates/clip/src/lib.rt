@@ -1,5 +1,7 @@
 // How short a sound clip tells two keys apart, and which bits of a key it shows. A clip is one ADX payload of data type 0.
 // Request 7. Ours: the Rust has nothing of the kind.
+#![tactic(auto)]
+
 ghost use Rattle.std.specs.Prelude.{◌≡◌, ◌≤◌};
 ghost use Rattle.mask.specs.Positions.{lanes_shown};
 ghost use Rattle.key.specs.LaneBits.{showing};

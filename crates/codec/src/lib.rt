@@ -1,5 +1,7 @@
 // A codec: what a cell of a table says of the stream, and the kind of stream that follows.
 // Rules T and R. From the Rust: `utf_first_u32`, `video_ext`, `audio_ext`.
+#![tactic(auto)]
+
 ghost use Rattle.std.specs.Prelude.{◌≡◌};
 ghost use Rattle.cell.specs.Cells.{bits_of};
 ghost use Rattle.codec.specs.Codecs.{codec_of};
@@ -9,21 +11,21 @@ ghost use Rattle.codec.specs.Numbers.{codec_by, presence_of, value_of, video_num
 use cell::Cell;
 
 // A codec's number, or that there is none.
-#[derive(Drop)]
+#[derive(Clone, Copy)]
 pub enum Codec {
     Value(u32),
     Absent,
 }
 
 // What a video stream is.
-#[derive(Drop)]
+#[derive(Clone, Copy)]
 pub enum VideoKind {
     Ivf,
     M2v,
 }
 
 // What an audio stream is.
-#[derive(Drop)]
+#[derive(Clone, Copy)]
 pub enum AudioKind {
     Hca,
     Adx,

@@ -1,5 +1,7 @@
 // A column of an @UTF table: where its values stand, the place of its name, its type and its constant.
 // Rules T. From the Rust: the column loop of `get_utf_table`.
+#![tactic(auto)]
+
 ghost use Rattle.std.specs.Prelude.{◌≡◌, ◌+◌, ◌%◌, ◌≤◌, ◌<◌, length};
 ghost use Rattle.column.specs.Storages.{other_storage, storage_of, in_record, in_row, constant_at};
 ghost use Rattle.column.specs.Columns.{column_from, column_at};
@@ -10,7 +12,7 @@ use reading::TableMode;
 use refusal::Cause;
 
 // Where a column has its values.
-#[derive(Drop)]
+#[derive(Clone, Copy)]
 pub enum Storage {
     // One value for every row, in the column's record.
     Constant,
@@ -24,7 +26,7 @@ pub enum Storage {
 
 // A column's record: the place of its name, where its values stand, their type, its constant (`Nothing` where it has none),
 // and the body byte where the next record stands.
-#[derive(Drop)]
+#[derive(Clone, Copy)]
 pub struct Column {
     pub name: usize,
     pub storage: Storage,
@@ -34,7 +36,7 @@ pub struct Column {
 }
 
 // A column, or why there is none.
-#[derive(Drop)]
+#[derive(Clone, Copy)]
 pub enum ColumnAnswer {
     Found(Column),
     NoColumn(Cause),

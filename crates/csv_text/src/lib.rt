@@ -1,5 +1,7 @@
 // Which fields of a CSV are written in quotes; and, in specs/, CSV by RFC 4180 as it is written and as it is read. Rules V.
 // From the Rust: nothing. It writes no tables out.
+#![tactic(auto)]
+
 ghost use Rattle.std.specs.Prelude.{◌≡◌};
 ghost use Rattle.csv_text.specs.Written.{is_mark, is_quoted};
 

@@ -2,6 +2,8 @@
 // leaves both outputs as they were.
 // Rules R and C. From the Rust: `extract_usm_to_memory`, `extract_usm_chunks_to_memory`
 // and `read_usm_chunk_into`.
+#![tactic(auto)]
+
 ghost use Rattle.std.specs.Prelude.{◌≡◌, ◌||◌, ◌+◌, ◌≤◌, length, ltb};
 ghost use Rattle.std.proofs.lemmas.List.Edits.{sets};
 ghost use Rattle.unmasking.specs.Unmasking.{clear_video, clear_audio};
@@ -19,7 +21,7 @@ use refusal::{Cause, Refusal};
 use unmasking::{Key, Unmasking};
 
 // What a film holds, besides the bytes of its streams.
-#[derive(Drop)]
+#[derive(Clone, Copy)]
 pub struct Contents {
     pub name: Name,
     pub audio: bool,
@@ -32,7 +34,7 @@ pub struct Contents {
 }
 
 // What an extraction answers.
-#[derive(Drop)]
+#[derive(Clone, Copy)]
 pub enum Extracted {
     Film(Contents),
     Refused(Refusal),
@@ -68,7 +70,7 @@ fn put_video(payload: &[u8], data_type: u8, unmasking: Unmasking, out: &mut [u8]
     ensures { out.new ≡ sets out.old at (clear_video unmasking data_type payload.now) }
 {
     let end = at + payload.len();
-    bytes::copy(payload, &mut out[at..end]);
+    out[at..end].copy_from_slice(payload);
     unmasking::unmask_video(&mut out[at..end], data_type, unmasking);
 }
 
@@ -78,7 +80,7 @@ fn put_audio(payload: &[u8], data_type: u8, unmasking: Unmasking, out: &mut [u8]
     ensures { out.new ≡ sets out.old at (clear_audio unmasking data_type payload.now) }
 {
     let end = at + payload.len();
-    bytes::copy(payload, &mut out[at..end]);
+    out[at..end].copy_from_slice(payload);
     unmasking::unmask_audio(&mut out[at..end], data_type, unmasking);
 }
 
@@ -93,8 +95,8 @@ fn write_streams(
     audio: &mut [u8],
 )
     requires { (video_size (walk_from container.now reading start).chunks ≤ length video.old) × (audio_size (walk_from container.now reading start).chunks ≤ length audio.old) }
-    ensures { (video.new ≡ sets video.old 0 (videoStream container.now unmasking (walkFrom container.now reading start).chunks))
-        × (audio.new ≡ sets audio.old 0 (audioStream container.now unmasking (walkFrom container.now reading start).chunks)) }
+    ensures { (video.new ≡ sets video.old 0 (video_stream container.now unmasking (walk_from container.now reading start).chunks))
+        × (audio.new ≡ sets audio.old 0 (audio_stream container.now unmasking (walk_from container.now reading start).chunks)) }
 {
     let mut at = start;
     let mut seen: usize = 0;

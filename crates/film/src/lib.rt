@@ -1,6 +1,8 @@
 // A film: what its header says, and its chunks from where the header ends, measured.
 // Rules R: 11 first, "then the walk's first refusal in reading order".
 // From the Rust: `extract_usm_to_memory`, up to where it takes the bytes.
+#![tactic(auto)]
+
 ghost use Rattle.std.specs.Prelude.{◌≡◌};
 ghost use Rattle.film.specs.Films.{survey_of, film_from, film_of};
 
@@ -10,7 +12,7 @@ use refusal::Refusal;
 use walk::Measured;
 
 // What is known of a film before a byte of its streams is taken, and how it is read.
-#[derive(Drop)]
+#[derive(Clone, Copy)]
 pub enum Surveyed {
     Film {
         header: Header,

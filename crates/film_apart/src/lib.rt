@@ -1,6 +1,8 @@
 // What two keys make of one film, found by masks and lengths: why the streams are the same, or the first byte at which they differ. No stream
 // is unpacked.
 // Rules D. Ours: the Rust has nothing of the kind.
+#![tactic(auto)]
+
 ghost use Rattle.std.specs.Prelude.{◌≡◌};
 ghost use Rattle.walk.specs.Walks.{walk_from};
 ghost use Rattle.film.specs.Films.{film_of};
@@ -14,7 +16,7 @@ use reading::{Applied, Reading};
 use refusal::Refusal;
 
 // Why two keys give the same streams of a film.
-#[derive(Drop)]
+#[derive(Clone, Copy)]
 pub enum WhySame {
     // They do not.
     Differ,
@@ -27,7 +29,7 @@ pub enum WhySame {
 }
 
 // One of a film's two streams.
-#[derive(Drop)]
+#[derive(Clone, Copy)]
 pub enum Stream {
     VideoStream,
     AudioStream,
@@ -35,7 +37,7 @@ pub enum Stream {
 
 // What two keys make of one film: the same streams, or streams that differ first at a byte. The byte is counted from the stream's first;
 // it stands in the chunk that starts at a byte of the container, at an offset of its payload.
-#[derive(Drop)]
+#[derive(Clone, Copy)]
 pub enum Parting {
     Same,
     Apart {
@@ -49,7 +51,7 @@ pub enum Parting {
 
 // The answer as C reads it. `stream` is 0 where the streams are the same. What has no meaning in it is 0.
 #[repr(C)]
-#[derive(Drop)]
+#[derive(Clone, Copy)]
 pub struct ApartReply {
     pub refused_at: usize,
     pub byte: usize,

@@ -1,4 +1,6 @@
 // Moves a film between the old builder's container and request 1's. Payloads travel as stored, so no key is needed. Rules O.
+#![tactic(auto)]
+
 mod back;
 mod onward;
 mod putting;

@@ -17,7 +17,7 @@ pub(crate) fn put(out: &mut [u8], at: usize, bytes: &[u8]) -> usize
     ensures { Put bytes.now out.old at out.new result }
 {
     let end = at + bytes.len();
-    bytes::copy(bytes, &mut out[at..end]);
+    out[at..end].copy_from_slice(bytes);
     end
 }
 

@@ -1,12 +1,14 @@
 // A film's name: a string or data of its header, or the fallback. Rules T and R.
 // From the Rust: `extract_filename`.
+#![tactic(auto)]
+
 ghost use Rattle.std.specs.Prelude.{◌≡◌};
 ghost use Rattle.film_name.specs.Names.{name_in, NameOf};
 
 use cell::Cell;
 
 // Where a film's name stands: in a part of the container, or nowhere in it, so that the fallback serves.
-#[derive(Drop)]
+#[derive(Clone, Copy)]
 pub enum Name {
     Part { start: usize, len: usize },
     Fallback,

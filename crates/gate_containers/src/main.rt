@@ -1,13 +1,15 @@
 // Replays recorded answers of the original Rust on whole containers: reads containers and questions from standard
 // input and writes what `extract::extract` answers, and a listing by `list::list_plan` and `list::record_at`.
 // README.md beside this crate has the format.
+#![tactic(auto)]
+
 ghost use Rattle.std.specs.Prelude.{◌≤◌, ◌<◌, length};
 
 mod answers;
 mod questions;
 
+use descriptors::{STDIN_FILENO, STDOUT_FILENO};
 use gate_fields::Number;
-use libc::{STDIN_FILENO, STDOUT_FILENO};
 
 // Puts the bytes that digits stand for at a place of the container, and answers whether they end inside it.
 fn put_at(container: &mut [u8], place: usize, digits: &[u8]) -> bool {

@@ -1,9 +1,11 @@
-// Replays recorded CSV of @UTF tables: reads tables from standard input, and writes what `csv::write_csv` answers and leaves in an
+// Replays recorded CSV of @UTF tables: reads tables from standard input, and writes what `table_csv::write_csv` answers and leaves in an
 // output. README.md beside this crate has the format.
+#![tactic(auto)]
+
 ghost use Rattle.std.specs.Prelude.{◌<◌};
 
+use descriptors::{STDIN_FILENO, STDOUT_FILENO};
 use lent::Written;
-use libc::{STDIN_FILENO, STDOUT_FILENO};
 use reading::TableMode;
 use refusal::{Cause, Refusal};
 
@@ -28,7 +30,7 @@ fn write_refusal(refusal: Refusal) {
 // Writes the answer on the table that the bytes begin with.
 fn write_answer(table: &[u8], mode: TableMode) {
     let mut out = [0u8; ROOM];
-    match csv::write_csv(table, 0, mode, &mut out) {
+    match table_csv::write_csv(table, 0, mode, &mut out) {
         Written::Size(size) => print_line::empty()
             .word(b"csv ")
             .hex_bytes(part::part_at(&out, 0, size))

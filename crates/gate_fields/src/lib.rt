@@ -1,13 +1,15 @@
 // The lines of a list and their fields: hex digits that stand for bytes, and decimal numbers.
 // No rule of this crate comes from the Rust: it serves the programs that replay recorded answers.
 // Where a contract has a second clause, it follows from the first and spares a caller the proof.
+#![tactic(auto)]
+
 ghost use Rattle.std.specs.Prelude.{◌≡◌, ◌≤◌, ◌<◌, min, length, drop};
 ghost use Rattle.io.specs.Counts.{IsPrefixLen};
 ghost use Rattle.part.specs.Parts.{IsPart};
 ghost use Rattle.gate_fields.specs.Fields.{next_line, ends_in_line, is_marked, rest_start, gap_in, digit_value, is_digits, is_hex, byte_of, decoded_count, decoded_into, number_of, after_field, number_at};
 
 // What a field is that should be a number.
-#[derive(Drop)]
+#[derive(Clone, Copy)]
 pub enum Number {
     Of(usize),
     NotANumber,

@@ -1,6 +1,8 @@
 // Prints the lines of stored containers, each below its title: example F, whole, cut and
 // padded, chunks of every kind, refusals, and F's payloads. The gate compares them with the file stdout.
-use libc::STDOUT_FILENO;
+#![tactic(auto)]
+
+use descriptors::STDOUT_FILENO;
 use reading::{Applied, AudioChoice, PayloadMode};
 
 // Stores bytes at the start of a part, as far as it goes.

@@ -1,8 +1,10 @@
 // Replays recorded answers of the original Rust: reads keys from standard input and writes what the
 // library's five exported functions answer for each. README.md beside this crate has the format.
+#![tactic(auto)]
+
 ghost use Rattle.std.specs.Prelude.{◌≤◌};
 
-use libc::{STDIN_FILENO, STDOUT_FILENO};
+use descriptors::{STDIN_FILENO, STDOUT_FILENO};
 use print_line::Line;
 use typed::Typed;
 
@@ -10,7 +12,7 @@ use typed::Typed;
 const LINE: usize = 17;
 
 // The functions that change a payload in place.
-#[derive(Drop)]
+#[derive(Clone, Copy)]
 enum Act {
     UnmaskVideo,
     MaskVideo,

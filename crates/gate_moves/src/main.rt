@@ -1,8 +1,10 @@
 // Replays films of the old builder, moved to request 1's container and back: reads containers from standard input, and
 // writes what `usm_from_old` and `usm_to_old` answer, with the digest of the output. README.md beside this crate has the format.
+#![tactic(auto)]
+
 mod numbers;
 
-use libc::{STDIN_FILENO, STDOUT_FILENO};
+use descriptors::{STDIN_FILENO, STDOUT_FILENO};
 use usm::moving::CodecBytes;
 
 // The most bytes of the list.

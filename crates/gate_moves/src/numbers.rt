@@ -2,7 +2,7 @@
 use usm::moving::CodecBytes;
 
 // The numbers of a line, where its hex digits start, and whether it is one.
-#[derive(Drop)]
+#[derive(Clone, Copy)]
 pub(crate) struct Numbers {
     pub(crate) whole: bool,
     pub(crate) has_video_codec: usize,

@@ -1,8 +1,10 @@
 // Replays answers that `checks/records/requests.py` works out from the words of requests 8 and 14: reads films from
 // standard input and writes what the profile, an index and jumps by it answer. README.md beside this crate has the format.
+#![tactic(auto)]
+
 mod answers;
 
-use libc::{STDIN_FILENO, STDOUT_FILENO};
+use descriptors::{STDIN_FILENO, STDOUT_FILENO};
 
 // The longest film of the list.
 const MOST: usize = 4096;

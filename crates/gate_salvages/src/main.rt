@@ -1,6 +1,8 @@
 // Replays request 12 on films that stand in hex on standard input, one to a line: writes the answer on every beginning of
 // each. README.md beside this crate has the format.
-use libc::{STDIN_FILENO, STDOUT_FILENO};
+#![tactic(auto)]
+
+use descriptors::{STDIN_FILENO, STDOUT_FILENO};
 use print_line::Line;
 use refusal::Refusal;
 use salvage::Salvaged;

@@ -1,5 +1,7 @@
 // The bytes that recorded answers are given for, and the digest that stands for an answer's bytes.
 // No rule of this crate comes from the Rust: it serves the programs that replay recorded answers.
+#![tactic(auto)]
+
 ghost use Rattle.std.specs.Prelude.{◌≡◌, ◌<◌, length};
 ghost use Rattle.laws.specs.Lists.{tab};
 ghost use Rattle.gate_sample.specs.Recorded.{number_after, sample_byte, digest_after, digest_of};

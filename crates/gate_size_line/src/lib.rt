@@ -1,6 +1,8 @@
 // What a function that writes into an output answered, as a line of text, with the output after it.
 //
 // These functions make lines that are written, and have no contract. Every line is compared with stored output in the gate.
+#![tactic(auto)]
+
 use lent::SizeReply;
 use print_line::Line;
 

@@ -1,6 +1,8 @@
 // Replays statements that were made by unpacking for every tenant: reads films and tenants from standard input and writes what
 // `statement::state` answers, for the tenants as listed and in reverse. README.md beside this crate has the format.
-use libc::{STDIN_FILENO, STDOUT_FILENO};
+#![tactic(auto)]
+
+use descriptors::{STDIN_FILENO, STDOUT_FILENO};
 
 // The bytes of a record on standard input, with its LF.
 const RECORD: usize = 44;
@@ -15,7 +17,7 @@ const FILM: usize = 4096;
 const TENANTS: usize = 17;
 
 // How long the film is, and how many tenants there are.
-#[derive(Drop)]
+#[derive(Clone, Copy)]
 struct Counts {
     film: usize,
     tenants: usize,

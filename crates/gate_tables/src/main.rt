@@ -1,12 +1,14 @@
 // Replays recorded answers of the original Rust on @UTF tables: reads tables and queries from standard
 // input and writes what `table::read_table` and `lookup::cell_of` answer. README.md beside this crate has
 // the format.
+#![tactic(auto)]
+
 ghost use Rattle.std.specs.Prelude.{◌≤◌, ◌<◌, length};
 
 mod answers;
 
+use descriptors::{STDIN_FILENO, STDOUT_FILENO};
 use gate_fields::Number;
-use libc::{STDIN_FILENO, STDOUT_FILENO};
 
 // The longest table of the list.
 const MOST_TABLE: usize = 4096;

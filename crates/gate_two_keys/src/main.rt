@@ -1,7 +1,9 @@
 // Prints the answers for stored words: each verdict, each way to write a key and a length, clips that tell
 // keys apart and clips that do not, and words that are no keys and no lengths. The gate compares them with the
 // file stdout.
-use libc::STDOUT_FILENO;
+#![tactic(auto)]
+
+use descriptors::STDOUT_FILENO;
 
 // Prints the answer for two words, and an empty line.
 fn pair(first: &[u8], second: &[u8]) {

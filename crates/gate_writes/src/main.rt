@@ -1,9 +1,11 @@
 // Replays a stored list of films to be written: reads their lengths and packings from standard input, and writes what
 // `usm_write` answers, the digest of its output, and what `usm_extract` reads back. README.md beside this crate has the format.
+#![tactic(auto)]
+
 mod numbers;
 
+use descriptors::{STDIN_FILENO, STDOUT_FILENO};
 use gate_size_line::{with_bytes, with_number};
-use libc::{STDIN_FILENO, STDOUT_FILENO};
 use numbers::Numbers;
 use print_line::Line;
 use reading::ReadingBytes;

@@ -1,7 +1,7 @@
 // The numbers on a line of the list, one space between each two.
 
 // The numbers of a line, and whether it is one.
-#[derive(Drop)]
+#[derive(Clone, Copy)]
 pub(crate) struct Numbers {
     pub(crate) whole: bool,
     pub(crate) name: usize,

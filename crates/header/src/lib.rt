@@ -1,6 +1,8 @@
 // The header walk: what a container says of its film, and where its chunks begin.
 // Rules H, whose steps 1 to 8 are a function each, from the last to the first, since each goes on to the next.
 // From the Rust: `parse_usm_header`, `parse_usm_header_chunks`, `skip_metadata_section`.
+#![tactic(auto)]
+
 ghost use Rattle.std.specs.Prelude.{◌≡◌};
 ghost use Rattle.header.specs.Headers.{step8, step7_audio, step7_video, step7_table, step7, step6, step5, step4, finish, step3_audio, step3, step2, step1, header_of};
 
@@ -11,7 +13,7 @@ use reading::Reading;
 use refusal::{Cause, LONGEST, Refusal};
 
 // What the header says of a film, and where its chunks begin.
-#[derive(Drop)]
+#[derive(Clone, Copy)]
 pub struct Header {
     pub name: Name,
     pub mpeg_codec: Codec,
@@ -24,7 +26,7 @@ pub struct Header {
 }
 
 // A header, or why a container is refused.
-#[derive(Drop)]
+#[derive(Clone, Copy)]
 pub enum HeaderAnswer {
     Read(Header),
     Refused(Refusal),

@@ -1,4 +1,6 @@
 // Where the tables of a film's header stand. Rules H. Ours, beyond the rules: the Rust reads them and keeps no places.
+#![tactic(auto)]
+
 ghost use Rattle.std.specs.Prelude.{◌≡◌, ◌+◌, ◌<◌, ◌^◌, true};
 ghost use Rattle.pieces.specs.Pieces.{header_in};
 ghost use Rattle.header_tables.specs.HeaderTables.{next_after, video_block, audio_block, last_table, tables_in, no_tables, reply_on, tables_reply};
@@ -11,7 +13,7 @@ use signature::{INSIDE, LETTERS};
 // Where the tables of a header stand: that with the film's name, those of video and audio, and their metadata. Of audio
 // that is not there the place is 0.
 #[repr(C)]
-#[derive(Drop)]
+#[derive(Clone, Copy)]
 pub struct HeaderTables {
     pub name: usize,
     pub video: usize,
@@ -23,7 +25,7 @@ pub struct HeaderTables {
 // What a film's beginning says of its header's tables: where they stand, or the film's refusal, or that more bytes are
 // needed to say. What has no meaning in it is 0.
 #[repr(C)]
-#[derive(Drop)]
+#[derive(Clone, Copy)]
 pub struct TablesReply {
     pub refused_at: usize,
     pub tables: HeaderTables,

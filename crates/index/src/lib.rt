@@ -1,5 +1,7 @@
 // An index of a film's picture stream: an entry for each video payload, into a lent list. Request 8. `seek` asks it.
 // No function of the Rust makes one.
+#![tactic(auto)]
+
 ghost use Rattle.std.specs.Prelude.{◌≡◌, ◌+◌, ◌<◌, ◌^◌, length, set};
 ghost use Rattle.std.proofs.lemmas.List.Edits.{sets};
 ghost use Rattle.walk.specs.Walks.{walk_from};
@@ -44,8 +46,8 @@ fn put_entry(index: &mut [[u64; 3]], count: usize, place: usize, chunk: Chunk) -
 // Puts an entry for each video payload from a place of the container on, as far as the list goes, and answers how many
 // there are. Where the chunks are refused, they end; a film that was surveyed before has no such chunk.
 fn put_entries(index: &mut [[u64; 3]], container: &[u8], start: usize, reading: Applied) -> usize
-    ensures { (result ≡ length (entriesOf (walkFrom container.now reading start).chunks))
-        × (index.new ≡ sets index.old 0 (entriesOf (walkFrom container.now reading start).chunks)) }
+    ensures { (result ≡ length (entries_of (walk_from container.now reading start).chunks))
+        × (index.new ≡ sets index.old 0 (entries_of (walk_from container.now reading start).chunks)) }
 {
     let mut at = start;
     let mut count: usize = 0;
@@ -71,8 +73,8 @@ fn put_entries(index: &mut [[u64; 3]], container: &[u8], start: usize, reading: 
 
 // Builds the index of a film whose chunks begin at a place: its entries are counted first, into no list at all.
 fn index_chunks(index: &mut [[u64; 3]], container: &[u8], start: usize, reading: Applied) -> Listed
-    ensures { (result ≡ countedIn (length index.old) (length (entriesOf (walkFrom container.now reading start).chunks)))
-        × (index.new ≡ enteredBy index.old (entriesOf (walkFrom container.now reading start).chunks) result) }
+    ensures { (result ≡ counted_in (length index.old) (length (entries_of (walk_from container.now reading start).chunks)))
+        × (index.new ≡ entered_by index.old (entries_of (walk_from container.now reading start).chunks) result) }
 {
     let count = put_entries(&mut index[0..0], container, start, reading);
     let answer = list::counted_in(index.len(), count);

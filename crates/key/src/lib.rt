@@ -1,11 +1,13 @@
 // The key table: T, V and A of a 64-bit key, and the bits of a key that count.
 // Rules K and M. From the Rust: `get_mask`.
+#![tactic(auto)]
+
 ghost use Rattle.std.specs.Prelude.{◌≡◌};
 ghost use Rattle.key.specs.KeyTable.{plus, minus, table_t, keys_of};
 ghost use Rattle.key.specs.CountingBits.{counting_bits};
 
 // T, V and A, as one value. The Rust's `VideoMask` is the pair of t and v, its `AudioMask` is a.
-#[derive(Drop)]
+#[derive(Clone, Copy)]
 pub struct Keys {
     pub t: [u8; 32],
     pub v: [u8; 32],

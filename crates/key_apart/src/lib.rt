@@ -1,5 +1,7 @@
 // The first byte of a payload that differs under two keys. It is found by positions and lanes; no byte of the payload is read.
 // Rules D. Ours: the Rust has nothing of the kind.
+#![tactic(auto)]
+
 ghost use Rattle.std.specs.Prelude.{◌≡◌, ◌%◌};
 ghost use Rattle.laws.specs.Lists.{at};
 ghost use Rattle.mask.specs.Positions.{head_row_differs, video_differs, audio_differs};

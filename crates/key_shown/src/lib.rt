@@ -1,6 +1,8 @@
 // What a film shows of a key, found by one walk over its chunks: the length of a sound clip that shows as much, and by that the
 // bits of a key.
 // Request 13. Ours: the Rust has nothing of the kind.
+#![tactic(auto)]
+
 ghost use Rattle.std.specs.Prelude.{◌≡◌, max, cond, ltb};
 ghost use Rattle.walk.specs.Walks.{walk_from};
 ghost use Rattle.clip.specs.Clips.{bits_shown};
@@ -15,7 +17,7 @@ use reading::{Applied, Reading};
 use refusal::Refusal;
 
 // What a film answers about keys: the bits of a key that it shows, or why it is refused.
-#[derive(Drop)]
+#[derive(Clone, Copy)]
 pub enum KeyBits {
     Shown(u64),
     Refused(Refusal),
@@ -23,7 +25,7 @@ pub enum KeyBits {
 
 // The answer as C reads it. What has no meaning in it is 0.
 #[repr(C)]
-#[derive(Drop)]
+#[derive(Clone, Copy)]
 pub struct KeyBitsReply {
     pub refused_at: usize,
     pub bits: u64,

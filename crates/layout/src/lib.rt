@@ -1,5 +1,7 @@
 // The layout of an @UTF table: what its header says, read once. Cells, columns, rows and look-ups go by it.
 // Rules T. From the Rust: the first reads of `get_utf_table`.
+#![tactic(auto)]
+
 ghost use Rattle.std.specs.Prelude.{◌≡◌, ◌<◌, ◌^◌};
 ghost use Rattle.layout.specs.Layouts.{start_of, counted_in, layout_in};
 
@@ -7,7 +9,7 @@ use reading::TableMode;
 use refusal::Cause;
 
 // What a table's header says, as far as anything depends on it, and how its columns are read.
-#[derive(Drop)]
+#[derive(Clone, Copy)]
 pub struct Layout {
     // The bytes of the body.
     pub size: usize,
@@ -23,7 +25,7 @@ pub struct Layout {
 }
 
 // A layout, or why there is none.
-#[derive(Drop)]
+#[derive(Clone, Copy)]
 pub enum LayoutAnswer {
     Laid(Layout),
     NoLayout(Cause),

@@ -1,11 +1,13 @@
 // What is answered where bytes are written into a lent output: their count, or why none are written. Rules R4 and R5, and 16.
+#![tactic(auto)]
+
 ghost use Rattle.std.specs.Prelude.{◌≡◌};
 ghost use Rattle.lent.specs.Written.{written_in, size_reply};
 
 use refusal::{Cause, Refusal};
 
 // How many bytes there are to write, or were written; or why none.
-#[derive(Drop)]
+#[derive(Clone, Copy)]
 pub enum Written {
     Size(usize),
     Refused(Refusal),
@@ -13,7 +15,7 @@ pub enum Written {
 
 // The answer as C reads it. What has no meaning in it is 0.
 #[repr(C)]
-#[derive(Drop)]
+#[derive(Clone, Copy)]
 pub struct SizeReply {
     pub refused_at: usize,
     pub size: usize,

@@ -1,5 +1,7 @@
 // A listing of a film's chunks: what it answers, and each chunk as a record of plain numbers. Rules C.
 // No function of the Rust lists chunks; its `read_chunk_header` reads one. `usm::usm_list` fills a lent list by what is here.
+#![tactic(auto)]
+
 ghost use Rattle.std.specs.Prelude.{◌≡◌, ◌-◌, ◌≤◌, ◌<◌, ◌^◌};
 ghost use Rattle.film.specs.Films.{survey_of, film_of};
 ghost use Rattle.reading.specs.Choices.{reading_by};
@@ -14,7 +16,7 @@ use refusal::{Cause, Refusal};
 // A chunk as plain numbers: its start, the number of its kind, its data type, its channel, how many bytes after its start
 // its payload stands, and its payload's length.
 #[repr(C)]
-#[derive(Drop)]
+#[derive(Clone, Copy)]
 pub struct ChunkRecord {
     pub start: usize,
     pub kind: u8,
@@ -25,7 +27,7 @@ pub struct ChunkRecord {
 }
 
 // What a listing answers: how many chunks there are, or why it is refused.
-#[derive(Drop)]
+#[derive(Clone, Copy)]
 pub enum Listed {
     Count(usize),
     Refused(Refusal),
@@ -33,7 +35,7 @@ pub enum Listed {
 
 // The answer as C reads it. What has no meaning in it is 0.
 #[repr(C)]
-#[derive(Drop)]
+#[derive(Clone, Copy)]
 pub struct ListReply {
     pub refused_at: usize,
     pub count: usize,
@@ -43,7 +45,7 @@ pub struct ListReply {
 
 // What a filler of a lent list goes by: what it replies, how many records it makes, from which place on, and how the
 // chunks are read.
-#[derive(Drop)]
+#[derive(Clone, Copy)]
 pub struct Plan {
     pub reply: ListReply,
     pub records: usize,
@@ -52,7 +54,7 @@ pub struct Plan {
 }
 
 // A record, and where the next chunk starts.
-#[derive(Drop)]
+#[derive(Clone, Copy)]
 pub struct RecordStep {
     pub made: ChunkRecord,
     pub next: usize,

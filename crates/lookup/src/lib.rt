@@ -1,5 +1,7 @@
 // A cell of an @UTF table by its column's name and its row.
 // Rules T. From the Rust: the rows of `get_utf_table`, which it keeps as maps by name.
+#![tactic(auto)]
+
 pub mod numbers;
 
 ghost use Rattle.std.specs.Prelude.{◌≡◌, ◌+◌, ◌-◌, ◌*◌, ◌≤◌, ◌<◌, ◌^◌, length};
@@ -19,21 +21,21 @@ use refusal::{Cause, Refusal};
 use table::TableAnswer;
 
 // Where the last column of a name has its record, and its cell in a row.
-#[derive(Drop)]
+#[derive(Clone, Copy)]
 enum Mark {
     Nowhere,
     Marked { entry: usize, offset: usize },
 }
 
 // What a search over all columns gives: the last column of the name, and the bytes of one row.
-#[derive(Drop)]
+#[derive(Clone, Copy)]
 struct Search {
     mark: Mark,
     width: usize,
 }
 
 // A cell of a table, or why the table is refused. Parts are parts of the slice that holds the table.
-#[derive(Drop)]
+#[derive(Clone, Copy)]
 pub enum Lookup {
     Holds(Cell),
     NoTable(Refusal),

@@ -12,14 +12,14 @@ use reading::TableMode;
 use refusal::{Cause, Refusal};
 
 // What is asked of a column: its name, or its cell in a row.
-#[derive(Drop)]
+#[derive(Clone, Copy)]
 pub enum Line {
     Names,
     Row(usize),
 }
 
 // Where a column has its record, and its cell in a row.
-#[derive(Drop)]
+#[derive(Clone, Copy)]
 struct Slot {
     entry: usize,
     offset: usize,

@@ -1,6 +1,8 @@
 // Video and audio payloads, unmasked and masked in place, of any length.
 // Rules K and M. From the Rust: `mask_video` and `mask_audio`, which unmask,
 // and `apply_video_mask` and `apply_audio_mask`, which mask a copy.
+#![tactic(auto)]
+
 ghost use Rattle.std.specs.Prelude.{◌≡◌, ◌≤◌, ◌<◌, length, eqb};
 ghost use Rattle.mask.specs.Rows.{xored, xored_rows, cleared_where, cleared_rows, cleared_on};
 ghost use Rattle.mask.specs.Audio.{masked_audio};

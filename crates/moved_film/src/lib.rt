@@ -1,6 +1,8 @@
 // Whether a container is one that the move from the old builder writes: request 1's, without a key, for a name that is UTF-8.
 // Recognising is rebuilding: the parts are read as every film's are, and what is written from them is compared with the container. Rule O10.
 // From the Rust: nothing. Its builder writes another container.
+#![tactic(auto)]
+
 ghost use Rattle.std.specs.Prelude.{◌≡◌, ◌&&◌, not, false, ◌++◌, ◌≤◌, length};
 ghost use Rattle.signature.specs.Signatures.{CRID, contents_end, stands_at};
 ghost use Rattle.unmasking.specs.declared.Key.TheVariants as key;
@@ -18,7 +20,7 @@ use unmasking::Key;
 use write_plan::Packing;
 
 // A film of request 1 without a key: the length of its name, how it is packed, where its chunks start, and what they hold.
-#[derive(Drop)]
+#[derive(Clone, Copy)]
 pub struct NewFilm {
     pub name: usize,
     pub packing: Packing,
@@ -27,7 +29,7 @@ pub struct NewFilm {
 }
 
 // What a container is: a film that the move writes, or none.
-#[derive(Drop)]
+#[derive(Clone, Copy)]
 pub enum Found {
     Film(NewFilm),
     Foreign,

@@ -1,6 +1,8 @@
 // The container of the old builder: the bytes of its blocks, and whether a container is one that it wrote, for one video and at most one audio.
 // Recognising is rebuilding: the parts are read where the builder puts them, and what it writes from them is compared with the container. Rules O.
 // From the Rust: `builder.rs`.
+#![tactic(auto)]
+
 ghost use Rattle.std.specs.Prelude.{◌≡◌, ◌&&◌, ◌++◌, ◌+◌, ◌-◌, ◌<◌, ◌^◌, length, drop};
 ghost use Rattle.word.specs.Numbers.{be32};
 ghost use Rattle.part.specs.Parts.{PartAt};
@@ -13,7 +15,7 @@ ghost use Rattle.old_film.specs.Finding.{name_size, audio_count, closes_with, st
 use turns::{Form, Turns};
 
 // A film of the builder: the length of its name, whether there is audio, where its chunks start, and what they hold.
-#[derive(Drop)]
+#[derive(Clone, Copy)]
 pub struct OldFilm {
     pub name: usize,
     pub audio: bool,
@@ -22,7 +24,7 @@ pub struct OldFilm {
 }
 
 // What a container is: a film of the builder, or none.
-#[derive(Drop)]
+#[derive(Clone, Copy)]
 pub enum Found {
     Film(OldFilm),
     Foreign,

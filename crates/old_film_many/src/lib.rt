@@ -1,6 +1,8 @@
 // Films of the old builder with several audios: whether a container is one. However many there are, the work is in proportion to the container's length, and nothing is
 // kept for each. Rules O3 to O8.
 // From the Rust: `builder.rs`.
+#![tactic(auto)]
+
 ghost use Rattle.std.specs.Prelude.{◌≡◌, Bool, true, ◌&&◌, List, map, ℕ, ◌+◌, ◌-◌, ◌*◌, ◌≤◌, ◌<◌, ◌^◌, ltb, length, drop, replicate};
 ghost use Rattle.signature.specs.Signatures.{SFA, stands_at};
 ghost use Rattle.turns.specs.declared.Form.TheVariants.{Old};
@@ -18,7 +20,7 @@ use write_blocks::PAYLOAD;
 const NUMBERS: usize = 0x100000000;
 
 // A turn: the length of the video's payload, and where the chunks of the audios begin and end.
-#[derive(Drop)]
+#[derive(Clone, Copy)]
 struct Turn {
     video: usize,
     start: usize,
@@ -26,7 +28,7 @@ struct Turn {
 }
 
 // All turns: the length of the video, and where they end.
-#[derive(Drop)]
+#[derive(Clone, Copy)]
 struct Sizes {
     video: usize,
     end: usize,

@@ -12,7 +12,7 @@ part_start bytes start len = cond (leb (start + len) (length bytes)) start 0
 
 -- r is a part of the slice s: it lies in the same memory, starts at byte `start` of s, and holds these bytes
 abbrev pub IsPart : Bor (List ℕ) → ℕ → List ℕ → Bor (List ℕ) → Type 0
-IsPart s start bytes r = (r.ref_ptr.0 ≡ s.ptr.0) × (r.ref_ptr.1 ≡ start + s.ptr.1) × (r.now ≡ bytes)
+IsPart s start bytes r = (r.ref_ptr.0 ≡ s.ref_ptr.0) × (r.ref_ptr.1 ≡ start + s.ref_ptr.1) × (r.now ≡ bytes)
 
 -- r is the part of s that has `len` bytes from a start on
 abbrev pub PartAt : Bor (List ℕ) → ℕ → ℕ → Bor (List ℕ) → Type 0

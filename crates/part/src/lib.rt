@@ -1,4 +1,6 @@
 // A part of a slice, by its start and its length. Every start and every length has an answer.
+#![tactic(auto)]
+
 ghost use Rattle.part.specs.Parts.{PartAt};
 
 // The part of a slice from a start on, or its empty part at byte 0 where the slice does not hold that much.

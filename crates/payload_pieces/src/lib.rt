@@ -1,5 +1,7 @@
 // A payload made clear piece by piece, in place, for callers that do not hold all of it.
 // Rules M and F5. Not in the Rust.
+#![tactic(auto)]
+
 ghost use Rattle.std.specs.Prelude.{◌≡◌, length};
 ghost use Rattle.payload_pieces.specs.Pieces.{is_edge, begins, ends, is_piece, cleared_after, piece_left};
 

@@ -1,5 +1,7 @@
 // What is replied on a film that is read piece by piece: on its beginning, and on a window at a place.
 // Ours, beyond the rules, as `replies` is.
+#![tactic(auto)]
+
 ghost use Rattle.std.specs.Prelude.{◌≡◌};
 ghost use Rattle.piece_replies.specs.PieceReplies.{chunk_reply, found_reply, said_by, step_reply, answer_as, chunks_in, open_reply};
 
@@ -13,7 +15,7 @@ use replies::FilmReply;
 // What stands at a place. `found` is 0 where the chunks are over, 1 where there is a chunk, 2 where the window is too short
 // to say. What has no meaning in it is 0; no chunk is refused for a column's type.
 #[repr(C)]
-#[derive(Drop)]
+#[derive(Clone, Copy)]
 pub struct StepReply {
     pub refused_at: usize,
     pub next: usize,
@@ -31,7 +33,7 @@ pub struct StepReply {
 // What a film's beginning says: as on a film, without the sizes; where the chunks begin; and whether more bytes are needed to
 // say. What has no meaning in it is 0.
 #[repr(C)]
-#[derive(Drop)]
+#[derive(Clone, Copy)]
 pub struct OpenReply {
     pub film: FilmReply,
     pub chunks: usize,

@@ -1,5 +1,7 @@
 // A film read piece by piece: its header from a beginning, each chunk from a window. Ours, beyond the rules: a caller holds
 // no more of a film than that, and one payload.
+#![tactic(auto)]
+
 ghost use Rattle.std.specs.Prelude.{◌≡◌};
 ghost use Rattle.laws_prefix.specs.Needs.{laid_at};
 ghost use Rattle.pieces.specs.Pieces.{too_long, is_open, settled_as, header_in, film_step};
@@ -12,7 +14,7 @@ use refusal::{Cause, LONGEST, Refusal};
 use signature::INSIDE;
 
 // What a beginning says of a film's header: what it is, or that more bytes are needed to say.
-#[derive(Drop)]
+#[derive(Clone, Copy)]
 pub enum Opened {
     More,
     Known(HeaderAnswer),

@@ -1,5 +1,7 @@
 // Where the streams of a film that is read piece by piece first differ under two keys, found chunk by chunk.
 // Rule D5b. Ours: the Rust has nothing of the kind.
+#![tactic(auto)]
+
 ghost use Rattle.std.specs.Prelude.{◌≡◌};
 ghost use Rattle.film_apart.specs.FilmsApart.{part_in, or_else};
 ghost use Rattle.pieces_apart.specs.Passing.{added, unparted, parted_in, past, parting_of};
@@ -9,7 +11,7 @@ use codec::Codec;
 use film_apart::{Parting, Stream};
 
 // What two keys make of the chunks so far in one stream: how many of its bytes were passed, and where the first stands that differs.
-#[derive(Drop)]
+#[derive(Clone, Copy)]
 pub struct Passed {
     pub bytes: usize,
     pub parting: Parting,

@@ -1,5 +1,7 @@
 // The bits of a key that one payload shows, so that a film's bits are found while its chunks are read one by one.
 // Rule D5a. Ours: the Rust has nothing of the kind.
+#![tactic(auto)]
+
 ghost use Rattle.std.specs.Prelude.{◌≡◌};
 ghost use Rattle.pieces_bits.specs.PayloadBits.{video_bits, payload_bits};
 

@@ -1,6 +1,8 @@
 // The statement of a film that is read piece by piece. What it goes by is gathered chunk by chunk: the bits of a key that the payloads
 // show, whether one of them is masked, and how many bytes both streams have.
 // Rules S. Ours: the Rust has nothing of the kind.
+#![tactic(auto)]
+
 ghost use Rattle.std.specs.Prelude.{◌≡◌, max, ◌||◌};
 ghost use Rattle.list.specs.Listing.{list_reply};
 ghost use Rattle.statement.specs.Statements.{refused_by};
@@ -14,7 +16,7 @@ use refusal::{Cause, LONGEST, Refusal};
 use unmasking::Mask;
 
 // What a statement goes by, of the chunks so far.
-#[derive(Drop)]
+#[derive(Clone, Copy)]
 pub struct Tally {
     pub bits: u64,
     pub masked: bool,
@@ -23,7 +25,7 @@ pub struct Tally {
 }
 
 // What was gathered of a film, or why it is refused.
-#[derive(Drop)]
+#[derive(Clone, Copy)]
 pub enum Gathered {
     Film(Tally),
     Refused(Refusal),

@@ -1,6 +1,8 @@
 // Prints whether the container on standard input is plain, or the first rule that it breaks, or why it is refused.
 // Request 14.
-use libc::STDIN_FILENO;
+#![tactic(auto)]
+
+use descriptors::STDIN_FILENO;
 
 // A longer container is refused.
 const LONGEST: usize = 16384;

@@ -2,6 +2,8 @@
 //
 // No contract can say what is written, so the functions here have none. What is written is decided by
 // `profile::profile`, which has one.
+#![tactic(auto)]
+
 use print_line::Line;
 use profile::{Profiled, Verdict};
 use refusal::Refusal;

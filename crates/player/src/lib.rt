@@ -1,5 +1,7 @@
 // Five functions for a C player: the key table, and video and audio payloads unmasked and masked in place.
-// Rules K. Declared for C in include/usm.h; `rt staticlib player` builds the library.
+// Rules K. Declared for C in include/usm.h and exported by the crate `player_c`.
+#![tactic(auto)]
+
 ghost use Rattle.std.specs.Prelude.{◌≡◌, length};
 ghost use Rattle.key.specs.KeyTable.{keys_of};
 ghost use Rattle.mask.specs.Audio.{masked_audio};

@@ -1,13 +1,15 @@
 // A line of text that is made piece by piece and written at once. A piece that does not fit is left out.
 // No rule of this crate comes from the Rust: it serves the programs that replay recorded answers.
+#![tactic(auto)]
+
 ghost use Rattle.std.specs.Prelude.{◌≡◌, ◌-◌, replicate};
 ghost use Rattle.text.specs.Numbers.{decimal, hex, hex_bytes};
 ghost use Rattle.print_line.specs.Lines.{with_piece};
 
-use libc::STDOUT_FILENO;
+use descriptors::STDOUT_FILENO;
 
 // A line so far: the first `len` of the bytes.
-#[derive(Drop)]
+#[derive(Clone, Copy)]
 pub struct Line {
     pub bytes: [u8; ROOM],
     pub len: usize,

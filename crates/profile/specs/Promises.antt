@@ -57,7 +57,7 @@ pub record ClosedOnce (container : List ℕ) (letters : ℕ) (chunks : List Chun
   pub end : Chunk
   pub after : List Chunk
   pub split : chunks ≡ before ++ end ∷ after
-  pub is_end_lem : is_end_of container letters end ≡ true
+  pub is_end : is_end_of container letters end ≡ true
   pub none_before : ended container letters before ≡ false
   pub none_after : occurs container letters after ≡ false
 

@@ -1,5 +1,7 @@
 // Whether a film is plain: the delivery profile of request 14, over a film that is accepted with audio chosen.
 // No function of the Rust asks it.
+#![tactic(auto)]
+
 pub mod steps;
 
 ghost use Rattle.std.specs.Prelude.{◌≡◌, ◌+◌, ◌≤◌, length};
@@ -13,7 +15,7 @@ use reading::{Applied, AudioChoice};
 use refusal::Refusal;
 
 // A stream so far: the film has none, or it is not closed yet, or an end chunk closed it.
-#[derive(Drop)]
+#[derive(Clone, Copy)]
 pub enum Stream {
     Absent,
     Open,
@@ -21,7 +23,7 @@ pub enum Stream {
 }
 
 // Both streams so far.
-#[derive(Drop)]
+#[derive(Clone, Copy)]
 pub struct Streams {
     pub video: Stream,
     pub audio: Stream,
@@ -29,7 +31,7 @@ pub struct Streams {
 
 // The first rule that is broken, by its number, 0 where none is; at which place; and of rule 3, the number of the stream's
 // kind.
-#[derive(Drop)]
+#[derive(Clone, Copy)]
 pub struct Verdict {
     pub place: usize,
     pub rule: u8,
@@ -37,7 +39,7 @@ pub struct Verdict {
 }
 
 // What the profile answers: a verdict on the film, or why it is refused.
-#[derive(Drop)]
+#[derive(Clone, Copy)]
 pub enum Profiled {
     Judged(Verdict),
     Refused(Refusal),
@@ -45,7 +47,7 @@ pub enum Profiled {
 
 // The answer as C reads it. What has no meaning in it is 0.
 #[repr(C)]
-#[derive(Drop)]
+#[derive(Clone, Copy)]
 pub struct ProfileReply {
     pub refused_at: usize,
     pub place: usize,

@@ -12,7 +12,7 @@ use crate::{Stream, Streams, Verdict, after_end, first_of, judge_chunk, missing,
 // What the chunks so far have shown: the first rule that was broken, as in a verdict, and how both streams stand: 0 absent,
 // 1 open, 2 closed.
 #[repr(C)]
-#[derive(Drop)]
+#[derive(Clone, Copy)]
 pub struct Profiling {
     pub place: usize,
     pub rule: u8,

@@ -25,7 +25,7 @@ use Rattle.old_film.specs.Finding.{audios_of}
 use Rattle.salvage.specs.declared.SalvageReply.{SalvageReply}
 use Rattle.salvage.specs.Salvage.{accepted, salvage_of, salvage_reply}
 use Rattle.csv_text.specs.Reading.{records_in}
-use Rattle.csv.specs.Writing.{texts_at}
+use Rattle.table_csv.specs.Writing.{texts_at}
 use Rattle.profile.specs.declared.ProfileReply.{ProfileReply}
 use Rattle.profile.specs.Profiles.{profile_of, profile_reply}
 use Rattle.key_shown.specs.declared.KeyBitsReply.{KeyBitsReply}

@@ -1,1 +1,2 @@
 // That what is written is read back, over the contracts of writing and of extraction. No code.
+#![tactic(auto)]

@@ -1,11 +1,13 @@
 // How a container is read: what a caller asks for, and what of it applies to one film. Both go by value.
 // Rules C: audio is taken "if present and chosen". request 2: none, all, or one channel. request 4: where a payload
 // starts. request 5: how a table's columns are read.
+#![tactic(auto)]
+
 ghost use Rattle.std.specs.Prelude.{◌≡◌};
 ghost use Rattle.reading.specs.Choices.{takes_channel, as_original, choice_by, payloads_by, mode_by, reading_by, applied_to};
 
 // Which audio payloads are asked for: none, those of every channel, or those of one.
-#[derive(Drop)]
+#[derive(Clone, Copy)]
 pub enum AudioChoice {
     NotChosen,
     Chosen,
@@ -13,7 +15,7 @@ pub enum AudioChoice {
 }
 
 // How the columns of tables are read.
-#[derive(Drop)]
+#[derive(Clone, Copy)]
 pub enum TableMode {
     // As the Rust reads them: each that has no constant has a value in every row.
     Original,
@@ -22,7 +24,7 @@ pub enum TableMode {
 }
 
 // Where the payloads of chunks start.
-#[derive(Drop)]
+#[derive(Clone, Copy)]
 pub enum PayloadMode {
     // As the Rust reads them: 0x20 bytes into the chunk, whatever its header size says.
     Original,
@@ -31,7 +33,7 @@ pub enum PayloadMode {
 }
 
 // How to read, as a caller asks.
-#[derive(Drop)]
+#[derive(Clone, Copy)]
 pub struct Reading {
     pub audio: AudioChoice,
     pub payloads: PayloadMode,
@@ -39,7 +41,7 @@ pub struct Reading {
 }
 
 // How one film is read: what was asked, as far as the film has it.
-#[derive(Drop)]
+#[derive(Clone, Copy)]
 pub struct Applied {
     pub audio: AudioChoice,
     pub payloads: PayloadMode,
@@ -47,7 +49,7 @@ pub struct Applied {
 
 // How to read, as C asks. `channel` counts where `audio` asks for one.
 #[repr(C)]
-#[derive(Drop)]
+#[derive(Clone, Copy)]
 pub struct ReadingBytes {
     pub audio: u8,
     pub channel: u8,

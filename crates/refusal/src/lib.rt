@@ -1,4 +1,6 @@
 // Why a table or a container is refused, or a film is not written, and where. Rules R.
+#![tactic(auto)]
+
 ghost use Rattle.std.specs.Prelude.{◌≡◌};
 ghost use Rattle.refusal.specs.Numbers.{number_of, beside_of};
 
@@ -7,7 +9,7 @@ pub const LONGEST: usize = 0x4000_0000;
 
 // Why. The cases stand in the order of their numbers: 1 to 13 and 15 to 23. 14 is struck: it cannot occur, and no
 // other cause has it.
-#[derive(Drop)]
+#[derive(Clone, Copy)]
 pub enum Cause {
     // Bytes run out.
     RanOut,
@@ -56,7 +58,7 @@ pub enum Cause {
 }
 
 // Why, and where.
-#[derive(Drop)]
+#[derive(Clone, Copy)]
 pub struct Refusal {
     pub cause: Cause,
     pub place: usize,
@@ -94,7 +96,7 @@ pub fn number_of(cause: Cause) -> u8
 
 // What is returned beside a number: the type beside 8, both sizes needed beside 12, the chunk count beside 13, the size
 // needed beside 16. All else is 0.
-#[derive(Drop)]
+#[derive(Clone, Copy)]
 pub struct Beside {
     pub video_size: usize,
     pub audio_size: usize,

@@ -1,5 +1,7 @@
 // Answers as C reads them: one struct for each, with a name for each thing in it. What has no meaning in an answer is 0.
 // Ours, beyond the rules: it has the numbers and what is also returned, and names no struct. A listing's reply is in `list`.
+#![tactic(auto)]
+
 ghost use Rattle.std.specs.Prelude.{◌≡◌};
 ghost use Rattle.replies.specs.TableReplies.{table_reply, cell_reply, storage_number, column_reply};
 ghost use Rattle.replies.specs.FilmReplies.{bit_of, name_source, name_start, name_length, contents_reply, film_reply};
@@ -13,7 +15,7 @@ use table::TableAnswer;
 
 // The reply on a table.
 #[repr(C)]
-#[derive(Drop)]
+#[derive(Clone, Copy)]
 pub struct TableReply {
     pub refused_at: usize,
     pub columns: usize,
@@ -24,7 +26,7 @@ pub struct TableReply {
 
 // The reply on a cell. `value` is a number, a float's bits, or where a string or data starts.
 #[repr(C)]
-#[derive(Drop)]
+#[derive(Clone, Copy)]
 pub struct CellReply {
     pub refused_at: usize,
     pub value: u64,
@@ -36,7 +38,7 @@ pub struct CellReply {
 
 // The reply on a column. `storage` is what its type byte says in the table's mode; where there is no such column both are 0.
 #[repr(C)]
-#[derive(Drop)]
+#[derive(Clone, Copy)]
 pub struct ColumnReply {
     pub refused_at: usize,
     pub name_start: usize,
@@ -49,7 +51,7 @@ pub struct ColumnReply {
 
 // The reply on a film.
 #[repr(C)]
-#[derive(Drop)]
+#[derive(Clone, Copy)]
 pub struct FilmReply {
     pub refused_at: usize,
     pub name_start: usize,

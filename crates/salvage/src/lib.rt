@@ -1,5 +1,7 @@
 // Uploads that stopped early: the longest beginning of a container that is accepted. Request 12.
 // One walk tells which cut holds what the chunks before it need; then the header is read once more, in what that cut leaves.
+#![tactic(auto)]
+
 ghost use Rattle.std.specs.Prelude.{◌≡◌, ◌+◌, ◌<◌, ◌^◌, max};
 ghost use Rattle.walk.specs.Walks.{walk_from};
 ghost use Rattle.header.specs.declared.HeaderAnswer.TheVariants.{Read};
@@ -15,7 +17,7 @@ use reading::{Applied, AudioChoice, Reading};
 use refusal::{Cause, Refusal};
 
 // How much of a container is kept, how much is dropped, and the number of the refusal that caused the cut; or why none is kept.
-#[derive(Drop)]
+#[derive(Clone, Copy)]
 pub enum Salvaged {
     Kept {
         kept: usize,
@@ -27,7 +29,7 @@ pub enum Salvaged {
 
 // The answer as C reads it. What has no meaning in it is 0.
 #[repr(C)]
-#[derive(Drop)]
+#[derive(Clone, Copy)]
 pub struct SalvageReply {
     pub refused_at: usize,
     pub kept: usize,
@@ -38,7 +40,7 @@ pub struct SalvageReply {
 }
 
 // Where a container can be cut, as its chunks go: not at all, or up to a place, and why.
-#[derive(Drop)]
+#[derive(Clone, Copy)]
 enum Fit {
     Whole,
     UpTo { place: usize, refusal: Refusal },

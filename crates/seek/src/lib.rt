@@ -1,18 +1,20 @@
 // Jumps to a byte of the picture stream, by an index of its payloads. Request 8.
 // No function of the Rust jumps.
+#![tactic(auto)]
+
 ghost use Rattle.std.specs.Prelude.{◌≡◌, ◌+◌, ◌-◌, ◌≤◌, ◌<◌, length};
 ghost use Rattle.seek.specs.Entries.{entry_of, place_at};
 ghost use Rattle.seek.specs.Seeking.{half_of, begun_by, sought_in, seek_reply};
 
 // A span of an index: its first entry, and how many entries it has.
-#[derive(Drop)]
+#[derive(Clone, Copy)]
 pub struct Span {
     pub low: usize,
     pub count: usize,
 }
 
 // Where a byte of the stream stands: the start of its chunk and its offset in that chunk's payload.
-#[derive(Drop)]
+#[derive(Clone, Copy)]
 pub enum Sought {
     At { chunk: u64, offset: u64 },
     PastTheEnd,
@@ -20,7 +22,7 @@ pub enum Sought {
 
 // The answer as C reads it. Past the end all are 0.
 #[repr(C)]
-#[derive(Drop)]
+#[derive(Clone, Copy)]
 pub struct SeekReply {
     pub chunk: u64,
     pub offset: u64,

@@ -1,4 +1,6 @@
 // The letters and markers by which blocks and chunks are told. Rules H and C.
+#![tactic(auto)]
+
 ghost use Rattle.std.specs.Prelude.{◌≡◌};
 ghost use Rattle.signature.specs.Signatures.{same_bytes, stands_at};
 

@@ -137,8 +137,8 @@ pub record Walked (container : List ℕ) (answer : Extracted) : Type 0 where
   pub audio : List ℕ
   pub video_after : List ℕ
   pub audio_after : List ℕ
-  pub video_room_lem : length container ≤ length video
-  pub audio_room_lem : length container ≤ length audio
+  pub video_room : length container ≤ length video
+  pub audio_room : length container ≤ length audio
   pub answers : Extraction container (as_original Chosen) key video audio answer video_after audio_after
 
 -- a refusal by a number, at a place

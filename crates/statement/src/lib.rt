@@ -1,6 +1,8 @@
 // The statement of a film: for each tenant its group, all of whom have one copy, and its share of that. What a film shows of a
 // key decides the groups, so no stream is unpacked.
 // Request 13. Ours: the Rust has nothing of the kind.
+#![tactic(auto)]
+
 ghost use Rattle.std.specs.Prelude.{◌≡◌, ◌≤◌, length};
 ghost use Rattle.std.proofs.lemmas.List.Edits.{sets};
 ghost use Rattle.list.specs.Listing.{list_reply};

@@ -3,9 +3,11 @@
 //
 // What is decided is decided by functions of `statement`, `tenants`, `statement_reasons` and `typed`, which have contracts. What is here
 // only prints. No contract can say what is written, so the functions that print have none.
+#![tactic(auto)]
+
+use descriptors::STDOUT_FILENO;
 use film::Surveyed;
 use film_apart::{Parting, Stream};
-use libc::STDOUT_FILENO;
 use list::ListReply;
 use reading::AudioChoice;
 use statement_reasons::Why;
@@ -17,7 +19,7 @@ pub const LONGEST: usize = 16384;
 const MOST: usize = 16;
 
 // What a film's groups are known by: the bits of a key that it shows, and both sizes.
-#[derive(Drop)]
+#[derive(Clone, Copy)]
 struct Shown {
     bits: u64,
     video: usize,

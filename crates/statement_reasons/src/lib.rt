@@ -1,9 +1,11 @@
 // Why the tenants of a group have one copy of a film. Request 13: the reasons that a statement is printed with.
+#![tactic(auto)]
+
 ghost use Rattle.std.specs.Prelude.{◌≡◌};
 ghost use Rattle.statement_reasons.specs.Reasons.{why_of};
 
 // Why the tenants of a group have one copy.
-#[derive(Drop)]
+#[derive(Clone, Copy)]
 pub enum Why {
     // The group has no second tenant.
     Alone,

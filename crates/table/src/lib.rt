@@ -3,6 +3,8 @@
 //
 // A text is fine where a zero byte stands at or after its start in the body. With `ends`, one past the body's last zero,
 // that is one comparison, so the walk searches no text and costs a little for each column and each cell.
+#![tactic(auto)]
+
 ghost use Rattle.std.specs.Prelude.{◌≡◌, ◌+◌, ◌%◌, ◌≤◌, length};
 ghost use Rattle.layout.specs.Layouts.{body_of};
 ghost use Rattle.cell.specs.declared.Cell.TheVariants.{Nothing};
@@ -22,14 +24,14 @@ use reading::TableMode;
 use refusal::{Cause, Refusal};
 
 // How far a walk came: past the last byte it read, or to a refusal.
-#[derive(Drop)]
+#[derive(Clone, Copy)]
 enum Walk {
     Done(usize),
     Stopped(Cause),
 }
 
 // What a table gives when it is read alone: its layout, of which columns and rows are the counts.
-#[derive(Drop)]
+#[derive(Clone, Copy)]
 pub enum TableAnswer {
     Table(Layout),
     NoTable(Refusal),

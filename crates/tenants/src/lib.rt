@@ -1,13 +1,15 @@
 // Tenants who share one copy of a film, and what each has to bear of it. A tenant is lent as its number and its key. `bits` are the
 // bits of a key that the film shows: those whose keys agree in them have one copy.
 // Request 13. Ours: the Rust has nothing of the kind.
+#![tactic(auto)]
+
 ghost use Rattle.std.specs.Prelude.{◌≡◌, cond, min, ◌≤◌, length};
 ghost use Rattle.tenants.specs.declared.Pick.TheVariants.{Numbered, SharingBelow};
 ghost use Rattle.tenants.specs.Tenants.{number_in, key_in, sharing, sharing_otherwise, picked, counted, lowest, first_of, repeated, are_bad, ranked};
 ghost use Rattle.tenants.specs.Shares.{portion, share_of, line_at};
 
 // Which tenants are counted.
-#[derive(Drop)]
+#[derive(Clone, Copy)]
 enum Pick {
     // Those of a number.
     Numbered(u64),

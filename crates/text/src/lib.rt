@@ -2,6 +2,8 @@
 // text from a place on, as far as the output goes, and answers how many bytes it has, whether they had room or not. So an
 // empty output measures a text.
 // No rule comes from the Rust, which prints nothing. It serves the programs' lines.
+#![tactic(auto)]
+
 ghost use Rattle.std.specs.Prelude.{◌≡◌, ◌+◌, ◌<◌, set};
 ghost use Rattle.io.specs.Digits.{hex_digit_ascii};
 ghost use Rattle.text.specs.Numbers.{decimal, hex, hex_bytes};

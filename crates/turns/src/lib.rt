@@ -1,6 +1,8 @@
 // The chunks of a film's two streams, by turns, in both containers that a film is moved between: the old builder's and request 1's.
 // They are read by rebuilding each from its own payload. Rules O4 and O5.
 // From the Rust: `write_stream_data`, `write_video_chunk` and `write_audio_chunk` of `builder.rs`, for at most one audio.
+#![tactic(auto)]
+
 ghost use Rattle.std.specs.Prelude.{◌≡◌, ◌+◌, ◌-◌, ◌≤◌, ◌<◌, ◌^◌, length, [], true, ◌||◌};
 ghost use Rattle.part.specs.Parts.{part_at, PartAt};
 ghost use Rattle.signature.specs.Signatures.{stands_at};
@@ -10,21 +12,21 @@ ghost use Rattle.turns.specs.Turns.{stream_size, seen_in, heard_in, read_in, tur
 
 use write_blocks::{CHUNK, PAYLOAD};
 // The container that chunks lie in: the old builder's, or request 1's.
-#[derive(Drop)]
+#[derive(Clone, Copy)]
 pub enum Form {
     Old,
     New,
 }
 
 // A stream of a container: the video, or an audio by its number. Request 1's container has one audio, and says no number.
-#[derive(Drop)]
+#[derive(Clone, Copy)]
 pub enum Track {
     Video,
     Audio(u32),
 }
 
 // What is particular to a chunk: its numbers, how many zeros stand before the payload, and how many after it.
-#[derive(Drop)]
+#[derive(Clone, Copy)]
 pub struct Shape {
     pub letters: usize,
     pub size: usize,
@@ -36,14 +38,14 @@ pub struct Shape {
 }
 
 // A payload that was read: its length, and whether it begins with the end marker.
-#[derive(Drop)]
+#[derive(Clone, Copy)]
 pub struct Seen {
     pub len: usize,
     pub marked: bool,
 }
 
 // What was read: the lengths of both streams, how many bytes their chunks take, and whether a payload begins with the end marker.
-#[derive(Drop)]
+#[derive(Clone, Copy)]
 pub struct Turns {
     pub video: usize,
     pub audio: usize,

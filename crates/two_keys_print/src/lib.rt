@@ -2,9 +2,11 @@
 //
 // What is decided is decided by functions of `typed` and `clip`, which have contracts. What is here only
 // prints. No contract can say what is written, so the functions that print have none.
+#![tactic(auto)]
+
 ghost use Rattle.std.specs.Prelude.{◌≤◌, length};
 
-use libc::STDOUT_FILENO;
+use descriptors::STDOUT_FILENO;
 use typed::{Typed, Verdict};
 
 // The hex digits, as they are printed.
@@ -14,7 +16,7 @@ const HEX: [u8; 16] = *b"0123456789ABCDEF";
 const SHOWN: usize = 40;
 
 // A row of 16 marks, one for each place of a key.
-#[derive(Drop)]
+#[derive(Clone, Copy)]
 enum Row {
     Digits(u64),
     Counts,
@@ -22,7 +24,7 @@ enum Row {
 }
 
 // Two keys, or nothing where a line told why not.
-#[derive(Drop)]
+#[derive(Clone, Copy)]
 enum Pair {
     Keys(u64, u64),
     Told,

@@ -1,20 +1,22 @@
 // A key as an operator knows it: 1 to 16 hex digits. It is read as it was typed, taken apart into
 // its digits, and set beside a second one; a clip's length and a tenant's number are read too. No rule of this crate comes from the
 // Rust: the rules rest on the bits of a key that count, and specs/Promises.antt says how.
+#![tactic(auto)]
+
 ghost use Rattle.std.specs.Prelude.{◌≡◌, ◌≤◌, ◌<◌};
 ghost use Rattle.typed.specs.TypedNumbers.{hex_value, prefixed, value_from, digits_read, number_typed, key_typed, length_typed, tenant_typed};
 ghost use Rattle.typed.specs.KeyDigits.{digit_at, digit_counts, digits_differ};
 ghost use Rattle.typed.specs.Verdicts.{verdict_on};
 
 // What a word is that was typed as a number.
-#[derive(Drop)]
+#[derive(Clone, Copy)]
 pub enum Typed {
     Number(u64),
     NoNumber,
 }
 
 // What two keys have in common: every bit, every bit that counts, or not even those.
-#[derive(Drop)]
+#[derive(Clone, Copy)]
 pub enum Verdict {
     SameKey,
     SameStreams,

@@ -1,5 +1,7 @@
 // Which payloads of a film are masked, and such a payload made clear in place.
 // Rules C. From the Rust: the masks that `extract_usm_to_memory` chooses, and `read_usm_chunk_into`.
+#![tactic(auto)]
+
 ghost use Rattle.std.specs.Prelude.{◌≡◌};
 ghost use Rattle.unmasking.specs.Unmasking.{key_by, is_adx, is_masked, unmasking_of, clear_video, clear_audio, video_mask, audio_mask, cleared_by, mask_number, mask_by};
 
@@ -7,14 +9,14 @@ use codec::Codec;
 use key::Keys;
 
 // The key that a film is read with, if there is one. Key 0 is a key.
-#[derive(Drop)]
+#[derive(Clone, Copy)]
 pub enum Key {
     Absent,
     Given(u64),
 }
 
 // Which streams are masked, and with which tables.
-#[derive(Drop)]
+#[derive(Clone, Copy)]
 pub struct Unmasking {
     pub video: bool,
     pub audio: bool,
@@ -22,7 +24,7 @@ pub struct Unmasking {
 }
 
 // The mask that a payload has: none, or that of a stream.
-#[derive(Drop)]
+#[derive(Clone, Copy)]
 pub enum Mask {
     Clear,
     VideoMask,

@@ -5,7 +5,7 @@ use Rattle.table.specs.Tables.{table_at}
 use Rattle.lent.specs.declared.SizeReply.{SizeReply}
 use Rattle.lent.specs.Written.{written_in}
 use Rattle.csv_text.specs.Written.{csv_of}
-use Rattle.csv.specs.Writing.{texts_at, to_write}
+use Rattle.table_csv.specs.Writing.{texts_at, to_write}
 use Rattle.lookup.specs.declared.numbers.Line.TheVariants.{Names}
 use Rattle.lookup.specs.Numbers.{cell_by, tag_by}
 use Rattle.replies.specs.declared.ColumnReply.{ColumnReply}

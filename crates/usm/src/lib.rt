@@ -1,15 +1,17 @@
 // What another program links: tables and cells, whole films and their chunks. Each function returns its reply by value.
-// Declared for C in include/usm.h; `rt staticlib usm` builds the library.
-mod jumps;
-mod keys;
+// Declared for C in include/usm.h and exported by the crate `usm_c`.
+#![tactic(auto)]
+
+pub mod jumps;
+pub mod keys;
 pub mod moving;
-mod partings;
-mod profiles;
-mod putting;
-mod salvaging;
-mod stating;
-mod stepping;
-mod tables;
+pub mod partings;
+pub mod profiles;
+pub mod putting;
+pub mod salvaging;
+pub mod stating;
+pub mod stepping;
+pub mod tables;
 pub mod writing;
 
 ghost use Rattle.std.specs.Prelude.{◌≡◌};
@@ -27,7 +29,7 @@ use replies::{CellReply, FilmReply, TableReply};
 
 // A key as C gives it. Where `given` is 0 there is none; with every other number it is `number`.
 #[repr(C)]
-#[derive(Drop)]
+#[derive(Clone, Copy)]
 pub struct KeyBytes {
     pub number: u64,
     pub given: u8,

@@ -5,7 +5,7 @@ use lent::SizeReply;
 
 // The codecs of a film, as C gives them. What is given by 0 is not there, and by every other number it is.
 #[repr(C)]
-#[derive(Drop)]
+#[derive(Clone, Copy)]
 pub struct CodecBytes {
     pub video_codec: u32,
     pub audio_codec: u32,

@@ -15,7 +15,7 @@ use reading::ReadingBytes;
 
 // What a film's header says of its audio. Where `present` is 0 there is none, and where `has_codec` is 0 no codec of it.
 #[repr(C)]
-#[derive(Drop)]
+#[derive(Clone, Copy)]
 pub struct AudioBytes {
     pub codec: u32,
     pub present: u8,

@@ -56,5 +56,5 @@ pub extern "C" fn usm_csv(
     ensures { CsvFor bytes.now place (mode_by reading.tables) out.old result out.new }
 {
     let mode = reading::mode_by(reading.tables);
-    lent::size_reply(csv::write_csv(bytes, place, mode, out))
+    lent::size_reply(table_csv::write_csv(bytes, place, mode, out))
 }

@@ -8,7 +8,7 @@ use write_plan::Packing;
 
 // How a film is packed, as C gives it. What is had or given by 0 is not there, and by every other number it is.
 #[repr(C)]
-#[derive(Drop)]
+#[derive(Clone, Copy)]
 pub struct PackingBytes {
     pub key: KeyBytes,
     pub video_codec: u32,

@@ -1,9 +1,11 @@
 // Whether bytes are well-formed UTF-8, as the names of the old builder are: they were `String`s of the Rust. Rule O8.
+#![tactic(auto)]
+
 ghost use Rattle.std.specs.Prelude.{◌≡◌};
 ghost use Rattle.utf8.specs.Utf8.{due_after, due_next, is_utf8};
 
 // What is due within a character: so many bytes, the next of which lies between these two.
-#[derive(Drop)]
+#[derive(Clone, Copy)]
 struct Due {
     more: u8,
     low: u8,

@@ -1,5 +1,7 @@
 // The chunks of a container, one after the other: how many there are, and how many bytes both streams have.
 // Rules C. From the Rust: the loop of `extract_usm_chunks_to_memory`.
+#![tactic(auto)]
+
 mod ahead;
 
 ghost use Rattle.std.specs.Prelude.{◌≡◌};
@@ -10,7 +12,7 @@ use reading::Applied;
 use refusal::Refusal;
 
 // What the chunks come to, or the first refusal.
-#[derive(Drop)]
+#[derive(Clone, Copy)]
 pub enum Measured {
     Sizes {
         count: usize,

@@ -1,8 +1,11 @@
 // Prints the statement of the film on standard input for its tenants: who_pays NUMBER:KEY ..
+#![tactic(auto)]
+
 ghost use Rattle.io.specs.Counts.{IsPrefixLen};
 ghost use Rattle.std.specs.Prelude.{◌≤◌, length};
 
-use libc::{STDIN_FILENO, STDOUT_FILENO};
+use descriptors::{STDIN_FILENO, STDOUT_FILENO};
+use std::env::{Env, FillError};
 use typed::Typed;
 
 // A word of more bytes is no tenant.
@@ -15,22 +18,33 @@ const TENANTS: usize = 17;
 const ROOM: usize = statement_print::LONGEST + 1;
 
 // A tenant as typed.
-#[derive(Drop)]
+#[derive(Clone, Copy)]
 enum Tenant {
     Of { number: u64, key: u64 },
     None,
 }
 
+// How many words the program was called with, its own name among them.
+fn argument_count(rt: &impl Env) -> usize {
+    let mut word = [0u8; WORD];
+    for number in 0..usize::MAX {
+        if let Err(FillError::NotPresent) = rt.arg(number, &mut word) {
+            return number;
+        }
+    }
+    usize::MAX
+}
+
 // Puts an argument at the start of `word` and gives its length; of one that is too long, as much as
 // there is room for.
-fn read_argument(number: usize, word: &mut [u8]) -> usize
+fn read_argument(rt: &impl Env, number: usize, word: &mut [u8]) -> usize
     ensures { IsPrefixLen result word.new }
 {
-    let length = os::arg(number, word);
-    if os::errno() == libc::ENAMETOOLONG {
-        return word.len();
+    match rt.arg(number, word) {
+        Ok(length) => length,
+        Err(FillError::TooLong) => word.len(),
+        Err(FillError::NotPresent) => 0,
     }
-    length
 }
 
 // Where the colon of a word stands; its length where there is none.
@@ -80,9 +94,9 @@ fn print_usage() {
 }
 
 // The tenant that an argument names.
-fn read_tenant(number: usize) -> Tenant {
+fn read_tenant(rt: &impl Env, number: usize) -> Tenant {
     let mut word = [0u8; WORD];
-    let length = read_argument(number, &mut word);
+    let length = read_argument(rt, number, &mut word);
     tenant_of(&word[..length])
 }
 
@@ -94,10 +108,10 @@ fn put_tenant(list: &mut [[u64; 2]], at: usize, tenant: [u64; 2]) {
 }
 
 // Puts the tenants that so many words name into a list, the program's name among the words, and answers whether all are.
-fn read_tenants(list: &mut [[u64; 2]], words: usize) -> bool {
+fn read_tenants(rt: &impl Env, list: &mut [[u64; 2]], words: usize) -> bool {
     let mut at = 1;
     while at < words {
-        let Tenant::Of { number, key } = read_tenant(at) else {
+        let Tenant::Of { number, key } = read_tenant(rt, at) else {
             return false;
         };
         put_tenant(list, at - 1, [number, key]);
@@ -118,14 +132,14 @@ fn tell(tenants: &[[u64; 2]], count: usize) {
 }
 
 // Prints the statement for the tenants that the arguments name, or how the program is called.
-fn main() {
+fn main(rt: HostRuntime) {
     let mut tenants = [[0; 2]; TENANTS];
-    let words = os::arg_count();
+    let words = argument_count(&rt);
     if words < 1 {
         print_usage();
         return;
     }
-    if read_tenants(&mut tenants, words) {
+    if read_tenants(&rt, &mut tenants, words) {
         tell(&tenants, words - 1);
         return;
     }

@@ -1,6 +1,8 @@
 // Bytes and big-endian numbers at a place of a slice, numbers as bytes, and padding. A byte past the end reads as 0, so every place has an answer:
 // whether enough bytes are there is another question, which `left_from` answers.
 // Rules T: "Big-endian throughout." From the Rust: the reads of `reader.rs`.
+#![tactic(auto)]
+
 ghost use Rattle.std.specs.Prelude.{◌≡◌, ◌+◌, ◌-◌, ◌≤◌, ◌<◌, ◌^◌, length};
 ghost use Rattle.laws.specs.Lists.{at};
 ghost use Rattle.word.specs.Numbers.{be16, be32, be64};

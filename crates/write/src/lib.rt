@@ -1,6 +1,8 @@
 // Writes a film that our own extractor reads: name, video, optional audio, optional codecs and optional key become a container
 // in a lent output. What is answered is decided before a byte is written; payloads are copied into place and masked there. Rules W1 to W9.
 // From the Rust: nothing. Its builder writes another container.
+#![tactic(auto)]
+
 ghost use Rattle.std.specs.Prelude.{◌≡◌, ◌+◌, ◌≤◌, ◌<◌, ◌^◌, max, length, drop};
 ghost use Rattle.std.proofs.lemmas.List.Edits.{sets};
 ghost use Rattle.laws.specs.Outputs.{Put};
@@ -36,7 +38,7 @@ fn put(out: &mut [u8], at: usize, bytes: &[u8]) -> usize
     ensures { Put bytes.now out.old at out.new result }
 {
     let end = at + bytes.len();
-    bytes::copy(bytes, &mut out[at..end]);
+    out[at..end].copy_from_slice(bytes);
     end
 }
 
@@ -215,7 +217,7 @@ fn put_payload(
     ensures { Put (stored_as unmasking stream payload.now) out.old at out.new result }
 {
     let end = at + payload.len();
-    bytes::copy(payload, &mut out[at..end]);
+    out[at..end].copy_from_slice(payload);
     mask_payload(&mut out[at..end], stream, unmasking);
     end
 }

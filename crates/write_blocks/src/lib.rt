@@ -1,5 +1,7 @@
 // The bytes with which the blocks and tables of a written film begin. Rules W1 to W4.
 // From the Rust: nothing. Its builder writes another container.
+#![tactic(auto)]
+
 ghost use Rattle.std.specs.Prelude.{◌≡◌, ◌+◌, ◌++◌};
 ghost use Rattle.word.specs.Bytes.{bytes32};
 ghost use Rattle.write_blocks.specs.Blocks.{head_of};

@@ -1,5 +1,7 @@
 // A film written piece by piece: which payload comes next, by numbers alone; the head of its chunk, into a small output; the payload as it is
 // stored. Ours, beyond the rules: a caller holds one payload, and nothing else of the film. The header and the ends stand in `write`.
+#![tactic(auto)]
+
 ghost use Rattle.std.specs.Prelude.{◌≡◌, ◌<◌, ◌^◌};
 ghost use Rattle.write_pieces.specs.Turns.{payload_len, turn_after, piece_of, first_of, turn_in};
 ghost use Rattle.write_pieces.specs.Storing.{mask_of, mask_in, stored_by, Storing};
@@ -17,7 +19,7 @@ use write_plan::{Packing, Stream};
 const WRITTEN: u8 = 0;
 
 // A payload that is written next: its stream, the byte of the stream that it begins with, how many bytes it has, and the turn after it.
-#[derive(Drop)]
+#[derive(Clone, Copy)]
 pub struct Piece {
     pub stream: Stream,
     pub from: usize,
@@ -26,7 +28,7 @@ pub struct Piece {
 }
 
 // What is written at a turn, or that both streams are over.
-#[derive(Drop)]
+#[derive(Clone, Copy)]
 pub enum Turn {
     Over,
     Next(Piece),
@@ -35,7 +37,7 @@ pub enum Turn {
 // What is written at a turn, as C reads it: the answer on the head's output; the payload, the zeros behind it, and the mask that it has.
 // `found` is 0 where both streams are over, and all else then.
 #[repr(C)]
-#[derive(Drop)]
+#[derive(Clone, Copy)]
 pub struct TurnReply {
     pub head: SizeReply,
     pub next: usize,

@@ -1,5 +1,7 @@
 // What a film to be written comes to: its blocks, its size, and what is refused before an output is looked at. Rules W5 to W8.
 // From the Rust: nothing. Its builder writes another container.
+#![tactic(auto)]
+
 ghost use Rattle.std.specs.Prelude.{◌≡◌, ◌&&◌, not, ◌<◌, ◌^◌, length, take, drop};
 ghost use Rattle.part.specs.Parts.{IsPart};
 ghost use Rattle.write_plan.specs.Payloads.{payloads_of, payload_start};
@@ -16,7 +18,7 @@ use unmasking::Key;
 use write_blocks::{CHUNK, PAYLOAD};
 
 // How a film is packed: whether there is audio, both codecs, and the key that masks.
-#[derive(Drop)]
+#[derive(Clone, Copy)]
 pub struct Packing {
     pub audio: bool,
     pub mpeg_codec: Codec,
@@ -25,7 +27,7 @@ pub struct Packing {
 }
 
 // Which stream a block belongs to.
-#[derive(Drop)]
+#[derive(Clone, Copy)]
 pub enum Stream {
     Video,
     Audio,

@@ -13,10 +13,10 @@ use Rattle.csv_text.specs.Reading.{records_in}
 use Rattle.refusal.specs.declared.Refusal.{Refusal}
 use Rattle.lent.specs.declared.Written.TheVariants as written
 use Rattle.lent.specs.declared.Written.TheVariants.{Size}
-use Rattle.csv.specs.declared.Line.{Line}
-use Rattle.csv.specs.declared.Line.TheVariants.{Names, Cells}
-use Rattle.csv.specs.Texts.{cell_on, row_end}
-use Rattle.csv.specs.Writing.{texts_at, Writing}
+use Rattle.table_csv.specs.declared.Line.{Line}
+use Rattle.table_csv.specs.declared.Line.TheVariants.{Names, Cells}
+use Rattle.table_csv.specs.Texts.{cell_on, row_end}
+use Rattle.table_csv.specs.Writing.{texts_at, Writing}
 
 -- Reading the written bytes back by the RFC's rules gives exactly the table's texts, name by name and cell by cell.
 abbrev pub ReadingBack : Type 0

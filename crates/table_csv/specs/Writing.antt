@@ -9,7 +9,7 @@ use Rattle.csv_text.specs.Written.{csv_of}
 use Rattle.lent.specs.declared.Written.{Written}
 use Rattle.lent.specs.declared.Written.TheVariants.{Size, Refused}
 use Rattle.lent.specs.Written.{written_in, left_by}
-use Rattle.csv.specs.Texts.{texts_of}
+use Rattle.table_csv.specs.Texts.{texts_of}
 
 abbrev pub texts_in : List ℕ → TableAnswer → List (List (List ℕ))
 texts_in t (Table l) = texts_of (body_of t l) l

@@ -2,14 +2,16 @@
 // the output as it was. Rules V. From the Rust: nothing. It writes no tables out.
 //
 // The work is in proportion to the table and its CSV. A column's name is read once, and not again for each row.
+#![tactic(auto)]
+
 ghost use Rattle.std.specs.Prelude.{◌≡◌, ◌+◌, ◌≤◌, ◌<◌, ◌^◌, length, drop};
 ghost use Rattle.laws.specs.Outputs.{Put};
 ghost use Rattle.text.specs.Numbers.{decimal, hex, hex_bytes};
 ghost use Rattle.layout.specs.Layouts.{body_of};
 ghost use Rattle.csv_text.specs.Written.{escaped, doubled, field_of, mark_after, record_of, csv_of};
 ghost use Rattle.table.specs.declared.TableAnswer.TheVariants.{Table};
-ghost use Rattle.csv.specs.Texts.{signed_text, text_of, text_in, row_cell, cell_on, line_from, row_end, row_texts, texts_of};
-ghost use Rattle.csv.specs.Writing.{WritingOf, Writing};
+ghost use Rattle.table_csv.specs.Texts.{signed_text, text_of, text_in, row_cell, cell_on, line_from, row_end, row_texts, texts_of};
+ghost use Rattle.table_csv.specs.Writing.{WritingOf, Writing};
 
 use cell::{Cell, CellAnswer};
 use column::Storage;
@@ -20,14 +22,14 @@ use refusal::Cause;
 use table::TableAnswer;
 
 // What a line shows of its columns: their names, or their cells in a row.
-#[derive(Drop)]
+#[derive(Clone, Copy)]
 enum Line {
     Names,
     Cells,
 }
 
 // Where a line ends in the output, and where its cells end in the body.
-#[derive(Drop)]
+#[derive(Clone, Copy)]
 struct Ends {
     end: usize,
     next: usize,

@@ -12,8 +12,8 @@ use Rattle.cell.specs.declared.CellAnswer.{CellAnswer}
 use Rattle.cell.specs.declared.CellAnswer.TheVariants.{Got, Refused}
 use Rattle.cell.specs.Cells.{cell_at}
 use Rattle.column.specs.Storages.{storage_of, in_record, in_row, constant_at, cell_in}
-use Rattle.csv.specs.declared.Line.{Line}
-use Rattle.csv.specs.declared.Line.TheVariants.{Names, Cells}
+use Rattle.table_csv.specs.declared.Line.{Line}
+use Rattle.table_csv.specs.declared.Line.TheVariants.{Names, Cells}
 
 -- "Numbers in decimal with sign": a minus sign, and no plus
 unfoldable pub signed_text : ℤ → List ℕ
