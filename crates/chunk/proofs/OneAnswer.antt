@@ -9,7 +9,7 @@ use Rattle.chunk.specs.declared.ChunkStep.{ChunkStep}
 use Rattle.chunk.specs.declared.ChunkStep.TheVariants.{Over, Found, Refused}
 use Rattle.chunk.specs.Chunks.{chunk_at, PayloadIn}
 use Rattle.chunk.proofs.kind_number.Reads as kind-number
-use Rattle.chunk.proofs.is_end.Reads as is_end_lem
+use Rattle.chunk.proofs.is_end.Reads as is_end
 use Rattle.chunk.proofs.chunk_at.Reads as chunk-at
 use Rattle.chunk.proofs.step_in.Reads as step_in
 use Rattle.chunk.proofs.payload_of.Reads as payload-of
@@ -18,7 +18,7 @@ use Rattle.chunk.proofs.read_payload.Reads as read-payload
 pub kind_number_once : (κs : _) (args : _) (r r' : _) (exit exit' : _) → kind-number.Learnt κs args r exit → kind-number.Learnt κs args r' exit' → r ≡ r'
 kind_number_once κs args r r' exit exit' = no_second_answer
 
-pub is_end_once : (κs : _) (args : _) (r r' : _) (exit exit' : _) → is_end_lem.Learnt κs args r exit → is_end_lem.Learnt κs args r' exit' → r ≡ r'
+pub is_end_once : (κs : _) (args : _) (r r' : _) (exit exit' : _) → is_end.Learnt κs args r exit → is_end.Learnt κs args r' exit' → r ≡ r'
 is_end_once κs args r r' exit exit' = no_second_answer
 
 pub chunk_at_once : (κs : _) (args : _) (r r' : _) (exit exit' : _) → chunk-at.Learnt κs args r exit → chunk-at.Learnt κs args r' exit' → r ≡ r'

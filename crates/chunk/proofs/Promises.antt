@@ -49,7 +49,7 @@ ReadFromThere container r reading c chunk p e t =
     let part : PayloadOf container chunk r = rw e at p in
     let here : part_start container.now chunk.payload chunk.len ≡ c + offset_of reading.payloads (opening_at container.now c) =
     rw (le-leb (chunk.payload + chunk.len) (length container.now) inside) start in
-    (part.0, part.1 ∙ ap (λ (n : ℕ). n + container.ptr.1) here, part.2)
+    (part.0, part.1 ∙ ap (λ (n : ℕ). n + container.ref_ptr.1) here, part.2)
 
 pub RefusedByThree : promised.RefusedByThree
 RefusedByThree container reading c refusal e = refused_there container reading c refusal e

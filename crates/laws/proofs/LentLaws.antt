@@ -39,16 +39,12 @@ module _ (out ys : List ℕ) (at k : ℕ) (e : length ys ≡ k) (h : at + k ≤ 
       rw (sets-eq ys out at g) (drop_at (take at out ++ ys) (drop (at + length ys) out) (at + length ys) f) in
       rw (stores zs (sets out at ys) at a, stores zs out at b, t, n, d)
 
--- a copy of as many as there are is the whole
-whole_copy : (p r ys : List ℕ) → length r ≤ length p → ys ≡ take (length p) p ++ drop (length p) r → ys ≡ p
-whole_copy p r ys g f = f ∙ rw (take-length p, drop_of_length-le r g, append-nil p)
-
 -- bytes that are copied into the part, and changed there
 module _ (bytes out ys : List ℕ) (at : ℕ) (fits : at + length bytes ≤ length out) where
   abbrev k : ℕ
   k = at + length bytes - at
 
-  module _ (copied : ys ≡ take (length bytes) bytes ++ drop (length bytes) (mid_of at k out)) where
+  module _ (copied : ys ≡ bytes) where
     n : length bytes ≡ k
     n = omega arith
 
@@ -56,8 +52,7 @@ module _ (bytes out ys : List ℕ) (at : ℕ) (fits : at + length bytes ≤ leng
     h = omega arith
 
     pub put_copied : put_mid at k out ys ≡ sets out at bytes
-    put_copied =
-        ap (put_mid at k out) (whole_copy bytes (mid_of at k out) ys (simp (length-take, length-drop) (omega arith)) copied) ∙ put_mid_lem out bytes at k n h
+    put_copied = ap (put_mid at k out) copied ∙ put_mid_lem out bytes at k n h
 
     pub put_changed : (change : List ℕ → List ℕ) (keeps : (p : List ℕ) → length (change p) ≡ length p) (zs : List ℕ) → zs ≡ change (mid_of at k (put_mid at k out ys))
         → put_mid at k (put_mid at k out ys) zs ≡ sets out at (change bytes)

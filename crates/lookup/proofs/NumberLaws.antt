@@ -71,9 +71,9 @@ module _ (bytes : List ℕ) (place : ℕ) (l : Layout) where
       pub no_line : on_line l line ≡ false → lookup.Holds Nothing ≡ numbered_in bytes place line k (Laid l)
       no_line e = rw (lt-ltb k l.columns h, e)
 
-      pub on_line : on_line l line ≡ true → (x : CellAnswer) → x ≡ line_cell (take (place + 32 + l.size - (place + 32)) (drop (place + 32) bytes)) (place + 32) l line k
+      pub on_line_lem : on_line l line ≡ true → (x : CellAnswer) → x ≡ line_cell (take (place + 32 + l.size - (place + 32)) (drop (place + 32) bytes)) (place + 32) l line k
           → placed place x ≡ numbered_in bytes place line k (Laid l)
-      on_line e x f = rw (lt-ltb k l.columns h, e, ← its_body, ← f)
+      on_line_lem e x f = rw (lt-ltb k l.columns h, e, ← its_body, ← f)
 
   module _ (k : ℕ) where
     pub no_tag : l.columns ≤ k → 0 ≡ tag_in bytes place k (Laid l)

@@ -89,9 +89,9 @@ module _ (s : List ℕ) (how : Reading) where
 
 -- ---- the name
 
-pub name_read : (s fallback : Bor (List ℕ)) (name : Name) (r : Bor (List ℕ)) → fallback.now ≡ [] → NameOf s fallback name r → r.now ≡ name_by s.now name
-name_read s fallback (Part start len) r e h = h.2
-name_read s fallback Fallback r e h = h.2 ∙ e
+pub name_read : (s fallback : Bor (List ℕ)) (name : Name) (r : Bor (List ℕ)) → NameOf s fallback name r → fallback.now ≡ [] → r.now ≡ name_by s.now name
+name_read s fallback (Part start len) r h e = h.2
+name_read s fallback Fallback r h e = h.2 ∙ e
 
 pub name_few : (s : List ℕ) (name : Name) → length (name_by s name) ≤ length s
 name_few s (Part start len) =

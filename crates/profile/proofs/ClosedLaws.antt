@@ -98,7 +98,7 @@ module _ (container : List ℕ) (audio : Bool) where
           end = chunk;
           after = chunks;
           split = refl;
-          is_end_lem = q;
+          is_end = q;
           none_before = refl;
           none_after = none_occur (start ++ chunk ∷ []) chunks (any_there (is_end_of container letters) start chunk [] q) k.1;
         }
@@ -109,7 +109,7 @@ module _ (container : List ℕ) (audio : Bool) where
               end = c.end;
               after = c.after;
               split = ap (λ (l : List Chunk). chunk ∷ l) c.split;
-              is_end_lem = c.is_end;
+              is_end = c.is_end;
               none_before = ap₂ (λ (s t : Bool). s || t) q c.none_before;
               none_after = c.none_after;
             }

@@ -25,7 +25,7 @@ use Rattle.codec.specs.declared.Codec.{Codec}
 use Rattle.reading.specs.declared.TableMode.{TableMode}
 use Rattle.table.specs.Tables.{table_at}
 use Rattle.csv_text.specs.Written.{csv_of}
-use Rattle.csv.specs.Writing.{texts_at, to_write}
+use Rattle.table_csv.specs.Writing.{texts_at, to_write}
 use Rattle.write_plan.specs.declared.Packing.{Packing}
 use Rattle.write_plan.specs.declared.Stream.TheVariants.{Video, Audio}
 use Rattle.promises_write.specs.Promises.{GivesBack, stored_in}
@@ -48,7 +48,7 @@ use Rattle.promises_write.proofs.Promises as written
 use Rattle.promises_profile.proofs.Promises as profiled
 use Rattle.profile.specs.declared.ProfileReply.{ProfileReply}
 use Rattle.profile.specs.Profiles.{profile_reply}
-use Rattle.csv.proofs.Promises as csv
+use Rattle.table_csv.proofs.Promises as csv
 use Rattle.key_shown.specs.declared.KeyBitsReply.{KeyBitsReply}
 use Rattle.key_shown.specs.KeyBits.{shown_bits, key_bits_in, key_bits_reply}
 use Rattle.key_shown.proofs.Promises as shown

@@ -27,7 +27,9 @@ use Rattle.laws_prefix.proofs.Promises.{HeaderOfABeginning}
 use Rattle.salvage.specs.declared.Salvaged.TheVariants.{Kept}
 use Rattle.salvage.specs.declared.Fit.TheVariants.{Whole, UpTo}
 use Rattle.salvage.specs.Salvage.{how, is_film, accepted, Cut, up_to, nowhere, last_of, starts_of, cut_as, ended_as, walk_of, salvage_from}
-use Rattle.salvage.specs.Fits.{fit_from, fit_in, if_read}
+use Rattle.std.proofs.Common.{max}
+use Rattle.laws_prefix.specs.Needs.{need_of}
+use Rattle.salvage.specs.Fits.{fitted, fit_from, fit_in, if_read}
 use Rattle.salvage.proofs.SearchLaws.{Rising, found_good, best_of, first_found, same_search, if_passes, both_searched}
 use Rattle.salvage.proofs.StepLaws.{Steps, stop, step, steps_of, starts_rise}
 use Rattle.salvage.proofs.CutLaws.{is_clean, ends, ends_here, loop_searches}
@@ -156,7 +158,7 @@ module _ (s : List ℕ) (header : Header) (read : header_of s how ≡ answer.Rea
   fit_clean : (need best : ℕ) (chunks : List Chunk) → fit_from need best chunks clean ≡ Whole
   unfolding fit_from
   fit_clean need best [] = refl
-  fit_clean need best (chunk ∷ chunks) = fit_clean _ _ chunks
+  fit_clean need best (chunk ∷ chunks) = fit_clean (max need (need_of chunk)) (fitted need best chunk.start) chunks
 
   by_ending_cut : (p : ℕ) (refusal : Refusal) → fit_in 0 header.start walk ≡ UpTo p refusal → (ending : Ending) → walk.ending ≡ ending
       → cut_as s refusal (if_read p (header_of (part_at s 0 p) how)) ≡ ended_as s walk.chunks ending

@@ -50,7 +50,7 @@ pub record TurnsLeft (form : Form) (audio : Bool) (bytes : List ℕ) (place from
   pub ahead : (seen || heard) ≡ true → from ≤ place
   pub within : place ≤ length bytes
   pub shown : video ≤ place
-  pub heard_of_lem : sound ≤ place
+  pub heard_of : sound ≤ place
   pub videos : video + length (read_from form n from seen heard (drop place bytes)).video ≡ length (read_in form audio bytes).video
   pub sounds : sound + length (read_from form n from seen heard (drop place bytes)).audio ≡ length (read_in form audio bytes).audio
   pub ends : place + (read_from form n from seen heard (drop place bytes)).end ≡ (read_in form audio bytes).end
@@ -65,7 +65,7 @@ module _ (form : Form) (audio : Bool) (bytes : List ℕ) where
         ahead = λ e. omega arith;
         within = omega arith;
         shown = omega arith;
-        heard_of_lem = omega arith;
+        heard_of = omega arith;
         videos = omega arith;
         sounds = omega arith;
         ends = omega arith;
@@ -159,7 +159,7 @@ module _ (form : Form) (audio : Bool) (bytes : List ℕ) where
             ahead = λ g. omega (arith, goes_on_lem g);
             within = end_fits;
             shown = omega (arith, v_fits);
-            heard_of_lem = omega (arith, a_fits);
+            heard_of = omega (arith, a_fits);
             videos = omega (arith, rw (rest_is n) at vs, length-append v (after n).video, v_is);
             sounds = omega (arith, rw (rest_is n) at ss, length-append a (after n).audio, a_is);
             ends = omega (arith, rw (rest_is n) at es, end_is);

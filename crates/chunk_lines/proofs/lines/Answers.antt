@@ -1,0 +1,18 @@
+-- `chunk_lines::lines` meets its contract: a survey that accepts is of the film whose chunks are printed, and one that refuses has the refusal. Assumes nothing.
+use mathlib.Core.Path.{sym, ◌∙◌}
+use Rattle.laws.proofs.PutLaws.{put_first}
+use Rattle.chunk_lines.proofs.TextLaws.{too_long, accepted, not_accepted}
+use Rattle.chunk_lines.proofs.lines.Goals as goal
+
+pub returns-then-container-gt-LONGEST : goal.returns-then-container-gt-LONGEST
+returns-then-container-gt-LONGEST c = put_first c.put_refusal.ensures (too_long _ c.if-container-gt-LONGEST.true)
+
+pub returns-in-Film : goal.returns-in-Film
+returns-in-Film c =
+    put_first c.put_chunks.ensures
+    (accepted _ c.if-container-gt-LONGEST.false _ _ _ _ _ (sym (rw c.as_original.ensures at c.survey.ensures) ∙ c.in-Film.is))
+
+pub returns-in-Refused : goal.returns-in-Refused
+returns-in-Refused c =
+    put_first c.put_refusal-in-Refused.ensures
+    (not_accepted _ c.if-container-gt-LONGEST.false _ (sym (rw c.as_original.ensures at c.survey.ensures) ∙ c.in-Refused.is))

@@ -1,0 +1,20 @@
+-- `film_move::back::to_old` meets its contract: a law for each answer. Assumes nothing.
+use mathlib.Core.Path.{sym, ◌∙◌}
+use Rattle.film_move.proofs.ToLaws.{is_film_lem, to_long, to_foreign}
+use Rattle.film_move.proofs.back.to_old.Goals as goal
+
+pub returns-then-container-gt-LONGEST : goal.returns-then-container-gt-LONGEST
+returns-then-container-gt-LONGEST c =
+    to_long c.args.container.now c.args.out.now _ c.if-container-gt-LONGEST.true c.refused.ensures
+
+pub move_back-requires : goal.move_back-requires
+move_back-requires c =
+    let film = is_film_lem c.args.container.now _ (sym c.find.ensures ∙ c.in-Film.is) in
+    (c.if-container-gt-LONGEST.false, film.0, film.1)
+
+pub returns-in-Film : goal.returns-in-Film
+returns-in-Film c = c.move_back.ensures
+
+pub returns-in-Foreign : goal.returns-in-Foreign
+returns-in-Foreign c =
+    to_foreign c.args.container.now c.args.out.now _ c.if-container-gt-LONGEST.false (sym c.find.ensures ∙ c.in-Foreign.is) c.refused-in-Foreign.ensures

@@ -1,0 +1,30 @@
+-- `film_move::onward::move_turned` meets its contract: what is planned is answered, where the output has room for it, and the film is put. Assumes nothing.
+use mathlib.Core.Path.{refl, sym, ◌∙◌}
+use native.Mathlib.Omega.{arith}
+use Rattle.lent.proofs.RoomLaws.{planned_so}
+use Rattle.write_plan.proofs.PlanLaws.{accepted}
+use Rattle.film_move.proofs.FromLaws.{turns_few, plan-moved}
+use Rattle.film_move.proofs.onward.move_turned.Goals as goal
+
+pub plan_turns-planned-requires : goal.plan_turns-planned-requires
+plan_turns-planned-requires c =
+    let few = turns_few c.args.container.now c.args.film c.requires.1 c.requires.0 in
+    let a = accepted _ _ _ _ _ c.requires.3 in
+    (omega (arith, a.sized, a.within), few.0, few.1)
+
+pub put_moved-requires : goal.put_moved-requires
+put_moved-requires c =
+    let so = planned_so _ _ _ (sym c.written_in.ensures ∙ c.in-Size.is) in
+    let e = plan-moved c.args.container.now c.args.film c.requires.1 c.args.packing c.requires.2 c.args.frame c.requires.3 in
+    let a = accepted _ _ _ _ _ (sym (c.plan_turns-planned.ensures ∙ e) ∙ so.0) in
+    (c.requires.1, c.requires.2, c.requires.3, omega (arith, a.sized, so.1))
+
+pub returns-in-Size : goal.returns-in-Size
+returns-in-Size c =
+    let e = plan-moved c.args.container.now c.args.film c.requires.1 c.args.packing c.requires.2 c.args.frame c.requires.3 in
+    (rw (← e, ← c.plan_turns-planned.ensures) (sym c.in-Size.is ∙ c.written_in.ensures), c.put_moved.ensures)
+
+pub returns-in-Refused : goal.returns-in-Refused
+returns-in-Refused c =
+    let e = plan-moved c.args.container.now c.args.film c.requires.1 c.args.packing c.requires.2 c.args.frame c.requires.3 in
+    (rw (← e, ← c.plan_turns-planned.ensures) (sym c.in-Refused.is ∙ c.written_in.ensures), refl)

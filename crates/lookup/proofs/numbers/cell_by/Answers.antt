@@ -1,0 +1,25 @@
+-- `lookup::numbers::cell_by` meets its contract, by cases of the layout. Assumes nothing.
+use mathlib.Core.Path.{sym, ◌∙◌}
+use native.Mathlib.Omega.{arith}
+use Rattle.lookup.proofs.NumberLaws.{past_the_end, unlaid, laid, fits}
+use Rattle.lookup.proofs.numbers.cell_by.Goals as goal
+
+pub returns-then-bytes-place : goal.returns-then-bytes-place
+returns-then-bytes-place c =
+    let a = c.args in
+    past_the_end a.bytes.now a.place a.mode a.line a.number (omega arith)
+
+pub cell_in_table-requires : goal.cell_in_table-requires
+cell_in_table-requires c =
+    let a = c.args in
+    fits a.bytes.now a.place a.mode (omega arith) _ (sym c.read_layout.ensures ∙ c.in-Laid.is)
+
+pub returns-in-Laid : goal.returns-in-Laid
+returns-in-Laid c =
+    let a = c.args in
+    c.cell_in_table.ensures ∙ laid a.bytes.now a.place a.mode (omega arith) _ (sym c.read_layout.ensures ∙ c.in-Laid.is) a.line a.number
+
+pub returns-in-NoLayout : goal.returns-in-NoLayout
+returns-in-NoLayout c =
+    let a = c.args in
+    unlaid a.bytes.now a.place a.mode (omega arith) _ (sym c.read_layout.ensures ∙ c.in-NoLayout.is) a.line a.number

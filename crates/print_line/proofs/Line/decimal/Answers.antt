@@ -1,0 +1,11 @@
+-- `print_line::Line::decimal` meets its contract: the digits are put as a word. Assumes nothing.
+use mathlib.Core.Path.{ap, ◌∙◌}
+use native.Mathlib.Omega.{arith}
+use Rattle.text.proofs.NumberLaws.{decimal_digits}
+use Rattle.print_line.specs.Lines.{with_piece}
+use Rattle.print_line.proofs.Line.decimal.Goals as goal
+
+pub returns : goal.returns
+returns c =
+    let d = c.decimal-count in
+    c.word.ensures ∙ ap (with_piece _) (d.ensures.digits ∙ decimal_digits d.result _ (omega arith) d.ensures.len)

@@ -1,0 +1,27 @@
+-- `table::check_column` meets its contract: each return is a case of the column. Assumes nothing.
+use borrow.Author.Rules.{rules}
+use mathlib.Core.Path.{sym, ◌∙◌}
+use native.Mathlib.Omega.{arith}
+use Rattle.table.proofs.CheckLaws.{column_cut, column_named, column_unnamed}
+use Rattle.table.proofs.check_column.Goals as goal
+
+pub returns-then-left_from-lt-RECORD : goal.returns-then-left_from-lt-RECORD
+returns-then-left_from-lt-RECORD c =
+    let a = c.args in
+    column_cut a.body.now a.at a.layout (omega arith)
+
+pub check_constant-requires : goal.check_constant-requires
+check_constant-requires c = (omega arith, search rules)
+
+pub returns-then-has_end : goal.returns-then-has_end
+returns-then-has_end c =
+    let a = c.args in
+    c.check_constant.ensures
+    ∙ column_named a.body.now a.at a.layout c.read8-tag.result c.read32.result (omega arith) c.read8-tag.ensures.0 c.read32.ensures.0
+    (sym c.has_end.ensures ∙ c.if-has_end.true)
+
+pub returns : goal.returns
+returns c =
+    let a = c.args in
+    column_unnamed a.body.now a.at a.layout c.read8-tag.result c.read32.result (omega arith) c.read8-tag.ensures.0 c.read32.ensures.0
+    (sym c.has_end.ensures ∙ c.if-has_end.false)

@@ -1,0 +1,25 @@
+-- `table::check_constant` meets its contract, by cases of the storage. Assumes nothing.
+use mathlib.Core.Path.{sym, ◌∙◌}
+use Rattle.table.proofs.CheckLaws.{constant_follows, stored_follows, zero_follows, unknown_follows}
+use Rattle.table.proofs.check_constant.Goals as goal
+
+pub returns-in-Constant : goal.returns-in-Constant
+returns-in-Constant c =
+    let a = c.args in
+    c.check_cell.ensures
+    ∙ constant_follows a.body.now a.tag a.at a.layout c.kind_of.result c.kind_of.ensures (sym c.storage_of.ensures ∙ c.in-Constant.is)
+
+pub returns-in-Stored : goal.returns-in-Stored
+returns-in-Stored c =
+    let a = c.args in
+    stored_follows a.body.now a.tag a.at a.layout (sym c.storage_of.ensures ∙ c.in-Stored.is)
+
+pub returns-in-Zero : goal.returns-in-Zero
+returns-in-Zero c =
+    let a = c.args in
+    zero_follows a.body.now a.tag a.at a.layout (sym c.storage_of.ensures ∙ c.in-Zero.is)
+
+pub returns-in-Unknown : goal.returns-in-Unknown
+returns-in-Unknown c =
+    let a = c.args in
+    unknown_follows a.body.now a.tag a.at a.layout (sym c.storage_of.ensures ∙ c.in-Unknown.is)

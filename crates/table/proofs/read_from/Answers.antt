@@ -1,0 +1,21 @@
+-- `table::read_from` meets its contract, by cases of the layout. Assumes nothing.
+use mathlib.Core.Path.{sym, ◌∙◌}
+use Rattle.layout.proofs.LayoutLaws.{sound}
+use Rattle.table.proofs.TableLaws.{unlaid, walked}
+use Rattle.table.proofs.read_from.Goals as goal
+
+pub checked-requires : goal.checked-requires
+checked-requires c =
+    let a = c.args in
+    let s = sound a.table.now a.mode c.in-Laid.layout (sym c.read_layout.ensures ∙ c.in-Laid.is) in
+    (s.0, s.3)
+
+pub returns-in-Laid : goal.returns-in-Laid
+returns-in-Laid c =
+    let a = c.args in
+    c.checked.ensures ∙ walked a.place a.table.now a.mode c.in-Laid.layout (sym c.read_layout.ensures ∙ c.in-Laid.is)
+
+pub returns-in-NoLayout : goal.returns-in-NoLayout
+returns-in-NoLayout c =
+    let a = c.args in
+    c.refused.ensures ∙ unlaid a.place a.table.now a.mode c.in-NoLayout.cause (sym c.read_layout.ensures ∙ c.in-NoLayout.is)

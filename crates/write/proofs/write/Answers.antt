@@ -1,0 +1,20 @@
+-- `write::write` meets its contract: what is planned is answered, where the output has room for it, and the film is put. Assumes nothing.
+use mathlib.Core.Path.{refl, sym, ◌∙◌}
+use native.Mathlib.Omega.{arith}
+use Rattle.lent.proofs.RoomLaws.{planned_so}
+use Rattle.write_plan.proofs.PlanLaws.{accepted}
+use Rattle.write.proofs.write.Goals as goal
+
+pub put_film-requires : goal.put_film-requires
+put_film-requires c =
+    let so = planned_so _ _ _ (sym c.written_in.ensures ∙ c.in-Size.is) in
+    let a = accepted _ _ _ _ _ (sym c.plan-planned.ensures ∙ so.0) in
+    rw c.audio_in-audio.ensures.2 (omega (arith, a.sized, so.1), a.within)
+
+pub returns-in-Size : goal.returns-in-Size
+returns-in-Size c =
+    (rw (← c.plan-planned.ensures) (sym c.in-Size.is ∙ c.written_in.ensures), rw c.audio_in-audio.ensures.2 at c.put_film.ensures)
+
+pub returns-in-Refused : goal.returns-in-Refused
+returns-in-Refused c =
+    (rw (← c.plan-planned.ensures) (sym c.in-Refused.is ∙ c.written_in.ensures), refl)
