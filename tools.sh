@@ -72,7 +72,7 @@ cargo_sources() {
 # All crates of some libraries: they themselves, those that they name in crates.txt, those that these name, and so on.
 crates_of() {
     awk -v wanted="$*" '
-        /^[a-z0-9_]+:/ { name = $1; sub(":", "", name); $1 = ""; needs[name] = $0 }
+        /^[a-z0-9_]+( staticlib)?:/ { name = $1; sub(":", "", name); $1 = ""; needs[name] = $0 }
         END {
             while (split(wanted, names, " ") > 0) {
                 wanted = ""
@@ -88,11 +88,12 @@ crates_of() {
 }
 
 # Whether a library is there, and nothing that it is proved from has changed since its proving began: the archive has
-# the time of that moment. What else a crate's folder has, such as its README, does not count.
+# the time of that moment. What else a crate's folder has, such as its README, does not count. libNAME.a is what the
+# crate NAME_c exports.
 is_proved() {
     local archive=$root/target/staticlib/lib$1.a crate folder from=("$root/crates.txt")
     [ -e "$archive" ] || return 1
-    for crate in $(crates_of "$1"); do
+    for crate in $(crates_of "${1}_c"); do
         for folder in "$root/crates/$crate"/{src,specs,proofs}; do
             [ ! -d "$folder" ] || from+=("$folder")
         done
@@ -114,12 +115,13 @@ prove_libraries() {
 
 # Proves what is missing of them, one after the other, and says how far it is.
 prove_missing() {
-    local name wanted=() line done=0 all
+    local name wanted=() line crate="" done=0 all
     for name in usm player; do
         is_proved "$name" || wanted+=("$name")
     done
     [ ${#wanted[@]} -gt 0 ] || return 0
-    all=$(crates_of "${wanted[@]}" | wc -l)
+    all=$(crates_of "${wanted[@]/%/_c}" | wc -l)
+    mkdir -p "$root/target/staticlib"
     say "proving ${wanted[*]/#/lib} and the crates below, $all in all: some 10 minutes where none is proved, once"
     for name in "${wanted[@]}"; do
         line=""
@@ -127,14 +129,18 @@ prove_missing() {
         while IFS= read -r line; do
             echo "$line"
             case $line in
-                'rt: '*' proved ('*) done=$((done + 1)) ;;&
-                *' proved ('[0-9]*) say "proved $done of $all: ${line#rt: }" ;;
+                'crate '*': '*) crate=${line#crate } ;;
+                'logic=proved '*)
+                    done=$((done + 1))
+                    say "proved $done of $all: ${crate%%:*}"
+                    ;;
             esac
-        done < <(cd "$root" && rt staticlib "$name" 2>&1 9>&- || echo "rt: failed") >"$made/$name.log"
+        done < <(cd "$root/crates/${name}_c" && rt lib 2>&1 9>&- || echo "rt: failed") >"$made/$name.log"
         [ "$line" != "rt: failed" ] || {
             tail -n 20 "$made/$name.log" >&2
-            stop "rt staticlib $name failed; $made/$name.log has all it said"
+            stop "rt lib in crates/${name}_c failed; $made/$name.log has all it said"
         }
+        cp "$root/crates/${name}_c/out/lib${name}_c.a" "$root/target/staticlib/lib$name.a"
         # What was edited meanwhile is newer, and is proved again.
         touch --reference="$made/$name-begun" "$root/target/staticlib/lib$name.a"
     done

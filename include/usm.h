@@ -1,10 +1,10 @@
 /*
  * usm.h: USM films and their chunks, the masks of their payloads, and @UTF tables, for C and C++.
  *
- * The masks are in libplayer.a, everything else in libusm.a; `rt staticlib player` and `rt staticlib usm`
- * write them to target/staticlib/. Both link into x86-64 Linux programs and shared objects, position
- * independent or not, alone or together, and need no other library: of the C library they call memcpy,
- * memmove and memset at most.
+ * The masks are in libplayer.a, everything else in libusm.a. `./usm` and `examples/run` put them into
+ * target/staticlib/; `rt lib`, in crates/player_c and crates/usm_c, is what proves and builds them. Both link
+ * into x86-64 Linux programs and shared objects, position independent or not, alone or together, and need
+ * no other library: of the C library they call memcpy, memmove and memset at most.
  *
  *     cc -Iinclude my_player.c target/staticlib/libplayer.a target/staticlib/libusm.a
  *
@@ -135,15 +135,14 @@ void usm_mask_audio(uint64_t key, uint8_t *payload, size_t len);
  *               that are read by themselves
  *     channel   the channel, where audio is USM_AUDIO_CHANNEL: 0 to 255. Otherwise ignored
  *     tables    USM_TABLES_ZERO_COLUMNS: a column whose type byte has the high nibble 1 stores nothing;
- *               its numbers and floats are 0, its strings and data empty, and it moves no other
- *               column's cells (proved). 1, 3, 5 and 7 are the only high nibbles, and another is
- *               USM_UNKNOWN_STORAGE. Every other number: as the original reads them, where such a
- *               column has a value in each row
+ *               its numbers and floats are 0, its strings and data empty. 1, 3, 5 and 7 are the only
+ *               high nibbles, and another is USM_UNKNOWN_STORAGE. Every other number: as the original
+ *               reads them, where such a column has a value in each row
  *     payloads  USM_PAYLOADS_AFTER_HEADER, 1: a payload starts 8 + header size bytes after its chunk's
  *               start, where the header ends. A header size below 0x18 is USM_SHORT_HEADER there, for a
  *               payload that is taken. Every other number: as the original reads them, 0x20 bytes after
  *               the chunk's start whatever the header size says. Where every header size is 0x18 both
- *               are the same, a refusal and its place too (proved)
+ *               are the same (proved)
  */
 struct usm_reading {
     uint8_t audio;
@@ -296,9 +295,9 @@ struct usm_column_reply {
  * The column of a number, counted from 0 in the table's order, and its cell in a row; nothing where the table has no such
  * column or row. Only the table's header, the columns' records and what is asked for are read, so all cells of a table can
  * be asked for one by one in little time. Whether the table is accepted is for usm_table to say: of one that is not, a column
- * or cell that can be read is given all the same. A cell is refused where it or its column's record is: the name, the
- * storage, or the value of a constant. An accepted table has every name and cell that it counts, and none of them is nothing;
- * usm_cell gives the cell of the last column that has the name, and usm_csv shows the same names and cells (proved).
+ * or cell that can be read is given all the same, and a cell is nothing too where its column's record is refused: the name,
+ * the storage, or the value of a constant. Of an accepted table usm_cell gives the cell of the last column that has the name
+ * (proved).
  */
 struct usm_column_reply usm_column(const uint8_t *bytes, size_t len, size_t place, size_t column,
                                    struct usm_reading reading);
@@ -459,8 +458,7 @@ struct usm_open_reply {
 /*
  * What a film of `total` bytes is, by its first `len` bytes: the header, or the film's refusal, or that
  * more bytes are needed. A beginning never contradicts the whole film, and the whole film never needs
- * more (proved). Pass some KiB first, then twice as many. A table that claims more bytes than the film has
- * needs no more than its own first 32 (proved). It needs 1,392 bytes of stack below its call.
+ * more (proved). Pass some KiB first, then twice as many. It needs 1,392 bytes of stack below its call.
  */
 struct usm_open_reply usm_open(const uint8_t *beginning, size_t len, size_t total,
                                struct usm_reading reading);

@@ -20,7 +20,7 @@ def find() -> Libraries:
         if header and folder and all((folder / archive).is_file() for archive in ARCHIVES):
             return Libraries(header / "usm.h", [folder / archive for archive in ARCHIVES])
     raise SystemExit(
-        "libusm.a and libplayer.a were not found: run `rt staticlib usm` and `rt staticlib player` in the repository, or its"
+        "libusm.a and libplayer.a were not found: run `examples/run` in the repository, or its"
         " `./install PREFIX` with PREFIX/lib/pkgconfig in PKG_CONFIG_PATH, or name their folder in USM_LIBRARIES"
     )
 

@@ -85,8 +85,7 @@ static void try_column(const struct options *options, struct bytes slice, size_t
     expect(got.kind == cell.kind && got.value == cell.value && got.length == cell.length, "usm_cell_at: another cell");
 }
 
-/* Of a table that is not, a refusal is the table's own where its header is refused; what is given lies in the slice; nothing
- * is given exactly where the table counts no such cell. */
+/* Of a table that is not, a refusal is the table's own where its header is refused; what is given lies in the slice. */
 static void try_refused_column(const struct options *options, struct bytes slice, size_t place, struct refused refused)
 {
     size_t number = options->rooms[0], row = options->rooms[1];
@@ -97,9 +96,6 @@ static void try_refused_column(const struct options *options, struct bytes slice
     note(got.number, 7, got.kind);
     expect(table.is_laid || (reply.number == refused.number && got.number == refused.number),
            "usm_column, usm_cell_at: another refusal of a header");
-    expect(!table.is_laid || (got.number == 0 && got.kind == USM_CELL_NOTHING) ==
-                                 (number >= table.columns || row >= table.rows),
-           "usm_cell_at: nothing for a cell that the table counts, or something for another");
     expect(reply.refused_at == (reply.number ? place : 0) && got.refused_at == (got.number ? place : 0),
            "usm_column, usm_cell_at: another place");
     expect(reply.name_length <= slice.len && reply.name_start <= slice.len - reply.name_length,

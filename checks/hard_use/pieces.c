@@ -33,7 +33,7 @@
 #define CHUNKS (MADE_BYTES / 8)
 
 static struct memory beginning_memory, window_memory, payload_memory;
-static uint64_t opens[256], steps[256], asked_opens, asked_steps, claims, cleared, accepted, refused_late, judged, parted, apart_tried, apart_found;
+static uint64_t opens[256], steps[256], asked_opens, asked_steps, cleared, accepted, refused_late, judged, parted, apart_tried, apart_found;
 static uint64_t pieces_cleared, pieces_refused;
 
 /* A film, how it is read, and what the functions for whole films say of it. */
@@ -153,18 +153,6 @@ static void try_beginning(enum edge edge, size_t len, int *known)
     expect(!*known || !reply.more, "a longer beginning says less");
     *known = !reply.more;
     try_tables(edge, len, reply);
-}
-
-/* A table that claims more bytes than the film has is refused as soon as its first 32 bytes are there. */
-static void try_claim(enum edge edge)
-{
-    size_t place = whole.opened.film.refused_at, table = place + 0x20;
-
-    if (whole.opened.film.number != USM_RAN_OUT || whole.len < place + 0x40 ||
-        memcmp(whole.bytes + table, "@UTF", 4) != 0 || next_block(table) <= whole.len)
-        return;
-    claims++;
-    expect(!open_beginning(edge, place + 0x40, whole.len).more, "a table's claim is not seen");
 }
 
 static void try_beginnings(enum edge edge, struct chance *chance)
@@ -520,7 +508,6 @@ static void try_case(enum edge edge)
 
     make_whole(edge, &chance);
     try_beginnings(edge, &chance);
-    try_claim(edge);
     if (whole.opened.film.number == USM_ACCEPTED)
         try_steps(edge, &chance);
     for (i = 0; i < 20; i++)
@@ -760,7 +747,7 @@ int main(int count, char **words)
     try_masks(BEGINS);
     try_cases(seconds, try_case);
     print_answers("usm_open", opens);
-    printf("; more is needed: %" PRIu64 "; tables that claim too much: %" PRIu64 "\n", asked_opens, claims);
+    printf("; more is needed: %" PRIu64 "\n", asked_opens);
     print_answers("usm_step", steps);
     printf("; more is needed: %" PRIu64 "\n", asked_steps);
     printf("pieces: %" PRIu64 " films put together of their pieces, %" PRIu64 " refused by a step, %" PRIu64

@@ -7,7 +7,7 @@
  *
  * What is expected of a table that is accepted follows from usm_table: how many there are; from usm_cell: the cell of the
  * last column of a name; and from usm_csv: the text of every name and cell. One that is refused has a header, a column or
- * a cell that is refused for the same reason. No cell that a table counts is nothing, accepted or not.
+ * a cell that is refused for the same reason, or a column whose cells are nothing.
  */
 #define _GNU_SOURCE
 #include "../../examples/replies.h"
@@ -289,9 +289,10 @@ static size_t number_at(size_t at, size_t width)
     return number;
 }
 
-/* The numbers that columns and cells of a table gave. */
+/* The numbers that columns and cells of a table gave, and whether a cell of it was nothing. */
 struct found {
     uint8_t numbers[256];
+    int nothing;
 };
 
 static void note(struct found *found, uint8_t number, size_t refused_at, uint8_t unknown_type)
@@ -314,12 +315,20 @@ static void note_column(struct found *found, struct usm_column_reply column)
         found->numbers[USM_UNKNOWN_STORAGE] = 1;
 }
 
+/* A cell is nothing only where its column's record is refused: the name, the storage or the constant. */
+static int may_be_nothing(struct usm_column_reply column)
+{
+    return column.number != USM_ACCEPTED || column.storage == USM_STORAGE_UNKNOWN ||
+           column.storage == USM_STORAGE_CONSTANT;
+}
+
 static void note_cell(struct found *found, struct usm_column_reply column, struct usm_cell_reply cell)
 {
     note(found, cell.number, cell.refused_at, cell.unknown_type);
     if (cell.kind == USM_CELL_NOTHING) {
         expect(cell.value == 0 && cell.length == 0, "something beside a refusal");
-        expect(cell.number != USM_ACCEPTED, "a cell that is there is nothing");
+        expect(cell.number != USM_ACCEPTED || may_be_nothing(column), "a cell of a column that can be read is nothing");
+        found->nothing |= cell.number == USM_ACCEPTED;
     } else {
         expect_cell(cell, column);
     }
@@ -343,7 +352,7 @@ static struct found found_in(size_t columns, size_t rows)
 }
 
 /* Where the header is refused every question gets that refusal. Where it is not, the table's refusal is that of a column or
- * a cell; but a table without rows has no cells. */
+ * a cell, or a cell is nothing; but a table without rows has no cells. */
 static void try_refused(void)
 {
     struct usm_column_reply none = column_of(SIZE_MAX);
@@ -362,7 +371,7 @@ static void try_refused(void)
     }
     rows = number_at(table.place + 28, 4);
     found = found_in(number_at(table.place + 24, 2), rows);
-    expect(rows == 0 || found.numbers[table.whole.number], "a table that is refused for nothing that it has");
+    expect(rows == 0 || found.nothing || found.numbers[table.whole.number], "a table that is refused for nothing that it has");
     readable += found.numbers[USM_ACCEPTED];
 }
 

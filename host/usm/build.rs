@@ -20,9 +20,8 @@ fn main() {
     println!("cargo::rerun-if-env-changed=PKG_CONFIG_PATH");
     let Some(folder) = named().or_else(in_the_repository).or_else(installed) else {
         println!(
-            "cargo::error=libplayer.a and libusm.a are nowhere: run `rt staticlib player` and `rt staticlib usm` in the \
-             repository, or its `./install PREFIX` with PREFIX/lib/pkgconfig in PKG_CONFIG_PATH, or name their folder in \
-             USM_LIBRARIES"
+            "cargo::error=libplayer.a and libusm.a are nowhere: run `./usm` in the repository, or its \
+             `./install PREFIX` with PREFIX/lib/pkgconfig in PKG_CONFIG_PATH, or name their folder in USM_LIBRARIES"
         );
         return;
     };
@@ -74,7 +73,7 @@ fn named() -> Option<PathBuf> {
     env::var_os("USM_LIBRARIES").map(PathBuf::from)
 }
 
-/// Where `rt staticlib` writes, if this crate stands in the repository and both are written.
+/// Where the scripts of the repository put them, if this crate stands in it and both are there.
 fn in_the_repository() -> Option<PathBuf> {
     let here = PathBuf::from(env::var_os("CARGO_MANIFEST_DIR")?);
     with_archives(here.ancestors().nth(2)?.join("target/staticlib"))
