@@ -120,10 +120,16 @@ def turn_antt(t, want=want):
         return want.get(w, w)
     return TOK.sub(f, t)
 def clauses(t):
-    # only the text of ghost use lines and of clauses' braces
+    # only the text of ghost use lines and of clauses' braces, which may go over several lines
     out, i = [], 0
-    for m in re.finditer(r"(?m)^ *ghost use [^\n]*$|^ *(?:requires|ensures|ghost)\*?(?: \w+)? \{[^\n]*\}[^\n]*$", t):
-        out.append(t[i: m.start()]); out.append(turn_antt(m.group(0))); i = m.end()
+    for m in re.finditer(r"(?m)^ *ghost use [^\n]*$|^ *(?:requires|ensures|ghost)\*?(?: \w+)? \{", t):
+        if m.start() < i:
+            continue
+        end, depth = m.end(), m.group(0).count("{") - m.group(0).count("}")
+        while depth > 0 and end < len(t):
+            depth += (t[end] == "{") - (t[end] == "}")
+            end += 1
+        out.append(t[i: m.start()]); out.append(turn_antt(t[m.start(): end])); i = end
     out.append(t[i:])
     return "".join(out)
 n = 0
