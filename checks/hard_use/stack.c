@@ -31,11 +31,11 @@ struct function {
 };
 
 static const struct function FUNCTIONS[] = {
-    {"usm_key_table", (void (*)(void))usm_key_table, 217},
-    {"usm_unmask_video", (void (*)(void))usm_unmask_video, 233},
-    {"usm_mask_video", (void (*)(void))usm_mask_video, 297},
-    {"usm_unmask_audio", (void (*)(void))usm_unmask_audio, 233},
-    {"usm_mask_audio", (void (*)(void))usm_mask_audio, 233},
+    {"usm_key_table", (void (*)(void))usm_key_table, 160},
+    {"usm_unmask_video", (void (*)(void))usm_unmask_video, 176},
+    {"usm_mask_video", (void (*)(void))usm_mask_video, 240},
+    {"usm_unmask_audio", (void (*)(void))usm_unmask_audio, 176},
+    {"usm_mask_audio", (void (*)(void))usm_mask_audio, 176},
 };
 
 static const uint64_t KEYS[] = {0, 1, 0x0123456789ABCDEF, UINT64_MAX};
@@ -354,15 +354,15 @@ struct reader {
 };
 
 static const struct reader READERS[] = {
-    {"usm_open", ask_open, 1392},
-    {"usm_step", ask_step, 136},
-    {"usm_clear", ask_clear, 296},
-    {"usm_clear_piece, first", ask_first_piece, 400},
-    {"usm_clear_piece", ask_piece, 400},
-    {"usm_key_bits", ask_bits, 1600},
+    {"usm_open", ask_open, 1592},
+    {"usm_step", ask_step, 104},
+    {"usm_clear", ask_clear, 392},
+    {"usm_clear_piece, first", ask_first_piece, 504},
+    {"usm_clear_piece", ask_piece, 504},
+    {"usm_key_bits", ask_bits, 1528},
     {"usm_payload_bits", ask_payload_bits, 8},
-    {"usm_apart", ask_apart, 1728},
-    {"usm_payload_apart", ask_payload_apart, 409},
+    {"usm_apart", ask_apart, 1704},
+    {"usm_payload_apart", ask_payload_apart, 336},
     {"usm_why", ask_why, 8},
 };
 
