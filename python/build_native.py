@@ -27,7 +27,7 @@ def declarations(header: str) -> str:
     """The numbers, structs and functions of usm.h, in the C that cffi reads: without comments, bodies and conditions."""
     text = re.sub(r"/\*.*?\*/", "", header, flags=re.DOTALL)
     text = re.sub(r"#ifdef __cplusplus.*?#endif", "", text, flags=re.DOTALL)
-    text = re.sub(r"^(?!#define USM_\w+ \d+\s*$)#.*$", "", text, flags=re.MULTILINE)
+    text = re.sub(r"^(?!#define USM_\w+ (?:0x[0-9A-F]+|\d+)\s*$)#.*$", "", text, flags=re.MULTILINE)
     text = re.sub(r"^static const .*$", "", text, flags=re.MULTILINE)
     text = re.sub(r"^static inline (.*?)\n\{.*?^\}", r"\1;", text, flags=re.DOTALL | re.MULTILINE)
     return text + "\nstatic const char *usm_version(void);\n"

@@ -24,9 +24,9 @@ def test_the_version_is_that_of_the_header() -> None:
 
 def test_every_function_and_number_of_the_header_is_there() -> None:
     functions = set(re.findall(r"^[a-z].*?\b(usm_\w+)\(", HEADER, flags=re.MULTILINE)) - {"usm_version"}
-    numbers = dict(re.findall(r"^#define (USM_\w+) (\d+)", HEADER, flags=re.MULTILINE))
+    numbers = dict(re.findall(r"^#define (USM_\w+) (0x[0-9A-F]+|\d+)", HEADER, flags=re.MULTILINE))
     assert len(functions) > 25 and functions <= set(dir(lib))
-    assert len(numbers) > 50 and all(getattr(lib, name) == int(number) for name, number in numbers.items())
+    assert len(numbers) > 50 and all(getattr(lib, name) == int(number, 0) for name, number in numbers.items())
 
 
 def test_the_types_are_for_checkers() -> None:
