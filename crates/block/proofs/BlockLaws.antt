@@ -1,4 +1,6 @@
 -- The cases of a block, one for each return of the code; and that a head that was read lies within the container. Assumes nothing.
+use Rattle.std.specs.Prelude.{Result, Ok}
+use Rattle.refusal.specs.declared.Refusal.{Refusal}
 use mathlib.Core.Path.{◌≡◌, refl}
 use mathlib.Core.List.{List}
 use mathlib.Core.Bool.{Bool, true, false, not, cond}
@@ -11,8 +13,6 @@ use Rattle.word.specs.Numbers.{be32}
 use Rattle.refusal.specs.declared.Cause.{Cause}
 use Rattle.refusal.specs.declared.Cause.TheVariants as cause
 use Rattle.signature.specs.Signatures.{SFV, SFA, metadata_end, stands_at}
-use Rattle.block.specs.declared.BlockAnswer.{BlockAnswer}
-use Rattle.block.specs.declared.BlockAnswer.TheVariants.{Next}
 use Rattle.block.specs.declared.Ahead.TheVariants.{Sound, Other, Cut}
 use Rattle.block.specs.Blocks.{refused_at, head_at, marked_at, ahead_at, chunks_after, last_block}
 
@@ -33,16 +33,16 @@ module _ (s : List ℕ) (letters : ℕ) (missing : Cause) (p : ℕ) where
       unfolding head_at
       head-short h = rw (le-ltb (length s - p) 4 four, eq-eqb (be32 s p) letters these, lt-ltb (length s - p) 8 h)
 
-      pub head_read : 8 ≤ length s - p → Next (p + 8 + be32 s (p + 4)) ≡ head_at s letters missing p
+      pub head_read : 8 ≤ length s - p → Ok (p + 8 + be32 s (p + 4)) ≡ head_at s letters missing p
       unfolding head_at
       head_read h = rw (le-ltb (length s - p) 4 four, eq-eqb (be32 s p) letters these, le-ltb (length s - p) 8 h)
 
-unrefused : (b : Bool) (p : ℕ) (why : Cause) (q : ℕ) (answer : BlockAnswer) → cond b (refused_at p why) answer ≡ Next q → (b ≡ false) × (answer ≡ Next q)
+unrefused : (b : Bool) (p : ℕ) (why : Cause) (q : ℕ) (answer : Result ℕ Refusal) → cond b (refused_at p why) answer ≡ Ok q → (b ≡ false) × (answer ≡ Ok q)
 unrefused true p why q answer e = let z : ◌≡◌ {A = ℕ} 0 1 = cc in absurd (omega arith)
 unrefused false p why q answer e = (refl, e)
 
 -- a head that was read lies within the container
-pub head_within : (s : List ℕ) (letters : ℕ) (missing : Cause) (p q : ℕ) → head_at s letters missing p ≡ Next q → p + 8 ≤ length s
+pub head_within : (s : List ℕ) (letters : ℕ) (missing : Cause) (p q : ℕ) → head_at s letters missing p ≡ Ok q → p + 8 ≤ length s
 unfolding head_at
 head_within s letters missing p q e =
     let a = unrefused (ltb (length s - p) 4) p cause.RanOut q _ e in
@@ -58,7 +58,7 @@ module _ (s marker : List ℕ) (unmarked : Cause) (p next : ℕ) where
   marker_cut h = rw (lt-ltb (length s - p) (0x20 + length marker) h)
 
   module _ (room : 0x20 + length marker ≤ length s - p) where
-    pub marker_there : stands_at marker s (p + 0x20) ≡ true → Next next ≡ marked_at s marker unmarked p next
+    pub marker_there : stands_at marker s (p + 0x20) ≡ true → Ok next ≡ marked_at s marker unmarked p next
     unfolding marked_at
     marker_there t = rw (le-ltb (length s - p) (0x20 + length marker) room, t)
 

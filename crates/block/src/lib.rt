@@ -9,32 +9,22 @@ ghost use Rattle.table.specs.Tables.{table_at};
 ghost use Rattle.lookup.specs.Lookups.{cell_of, last_cell_of};
 ghost use Rattle.block.specs.Blocks.{refused_at, head_at, marked_at, tabled, coded, named, marker_block, table_block, codec_block, name_block, ahead_at, chunks_after, last_block};
 
-use codec::Codec;
 use film_name::Name;
-use lookup::Lookup;
 use reading::Reading;
 use refusal::{Cause, Refusal};
-use table::TableAnswer;
-
-// Where the next block stands, or why not.
-#[derive(Clone, Copy)]
-pub enum BlockAnswer {
-    Next(usize),
-    NoBlock(Refusal),
-}
 
 // The codec that a block's table gives, and where the next block stands.
 #[derive(Clone, Copy)]
-pub enum CodecBlock {
-    Coded { codec: Codec, next: usize },
-    NoCodec(Refusal),
+pub struct CodecBlock {
+    pub codec: Option<u32>,
+    pub next: usize,
 }
 
 // The name that the first block's table gives, and where the next block stands.
 #[derive(Clone, Copy)]
-pub enum NameBlock {
-    Named { name: Name, next: usize },
-    NoName(Refusal),
+pub struct NameBlock {
+    pub name: Option<Name>,
+    pub next: usize,
 }
 
 // What stands next: `@SFA`, other letters, or fewer than four bytes.
@@ -54,89 +44,94 @@ const MARKED: usize = 45;
 // The bytes between a last block and the chunks.
 const GAP: usize = 16;
 
-// A refusal of the block at a place.
-fn refused(cause: Cause, place: usize) -> BlockAnswer
-    ensures { result ≡ refused_at place cause }
-{
-    BlockAnswer::NoBlock(Refusal { cause, place })
-}
-
 // The letters and the size of the block at a place: where the next stands. Other letters are refused as `missing`.
-fn head_at(bytes: &[u8], letters: usize, missing: Cause, place: usize) -> BlockAnswer
+fn head_at(bytes: &[u8], letters: usize, missing: Cause, place: usize) -> Result<usize, Refusal>
     ensures { result ≡ head_at bytes.now letters missing place }
 {
     let left = word::left_from(bytes, place);
     if left < signature::LETTERS {
-        return refused(Cause::RanOut, place);
+        return refusal::refused(Cause::RanOut, place);
     }
     if word::read32(bytes, place) != letters {
-        return refused(missing, place);
+        return refusal::refused(missing, place);
     }
     if left < HEAD {
-        return refused(Cause::RanOut, place);
+        return refusal::refused(Cause::RanOut, place);
     }
-    BlockAnswer::Next(place + HEAD + word::read32(bytes, place + signature::LETTERS))
+    Ok(place + HEAD + word::read32(bytes, place + signature::LETTERS))
 }
 
 // The marker of the block at a place. Another is refused as `unmarked`.
-fn marked_at(bytes: &[u8], marker: &[u8], unmarked: Cause, place: usize, next: usize) -> BlockAnswer
+fn marked_at(
+    bytes: &[u8],
+    marker: &[u8],
+    unmarked: Cause,
+    place: usize,
+    next: usize,
+) -> Result<usize, Refusal>
     ensures { result ≡ marked_at bytes.now marker.now unmarked place next }
 {
     if word::left_from(bytes, place) < signature::INSIDE + marker.len() {
-        return refused(Cause::RanOut, place);
+        return refusal::refused(Cause::RanOut, place);
     }
     if signature::stands_at(marker, bytes, place + signature::INSIDE) {
-        return BlockAnswer::Next(next);
+        return Ok(next);
     }
-    refused(unmarked, place)
+    refusal::refused(unmarked, place)
 }
 
 // The table of a block whose head was read, which is checked. Past such a head no sum overflows.
-fn table_at(bytes: &[u8], reading: Reading, place: usize, next: usize) -> BlockAnswer
+fn table_at(bytes: &[u8], reading: Reading, place: usize, next: usize) -> Result<usize, Refusal>
     requires { place + 8 ≤ length bytes.now }
     ensures { result ≡ tabled place next (table_at bytes.now (place + 0x20) reading.tables) }
 {
     let mode = reading.tables;
     match table::read_table(bytes, place + signature::INSIDE, mode) {
-        TableAnswer::Table(_) => BlockAnswer::Next(next),
-        TableAnswer::NoTable(refusal) => {
+        Ok(_) => Ok(next),
+        Err(refusal) => {
             let cause = refusal.cause;
-            refused(cause, place)
+            refusal::refused(cause, place)
         }
     }
 }
 
 // The table of a block whose head was read: its column's cell in the first row is a codec.
-fn codec_at(bytes: &[u8], reading: Reading, column: &[u8], place: usize, next: usize) -> CodecBlock
+fn codec_at(
+    bytes: &[u8],
+    reading: Reading,
+    column: &[u8],
+    place: usize,
+    next: usize,
+) -> Result<CodecBlock, Refusal>
     requires { place + 8 ≤ length bytes.now }
     ensures { result ≡ coded place next (cell_of bytes.now (place + 0x20) reading.tables column.now 0) }
 {
     let mode = reading.tables;
     match lookup::cell_of(bytes, place + signature::INSIDE, mode, column, 0) {
-        Lookup::Holds(cell) => CodecBlock::Coded {
+        Ok(cell) => Ok(CodecBlock {
             codec: codec::codec_of(cell),
             next,
-        },
-        Lookup::NoTable(refusal) => {
+        }),
+        Err(refusal) => {
             let cause = refusal.cause;
-            CodecBlock::NoCodec(Refusal { cause, place })
+            refusal::refused(cause, place)
         }
     }
 }
 
 // The table of the block at 0: its `filename` in the last row is the name.
-fn name_at(bytes: &[u8], reading: Reading, next: usize) -> NameBlock
+fn name_at(bytes: &[u8], reading: Reading, next: usize) -> Result<NameBlock, Refusal>
     ensures { result ≡ named 0 next (last_cell_of bytes.now 0x20 reading.tables filename) }
 {
     let mode = reading.tables;
     match lookup::last_cell_of(bytes, signature::INSIDE, mode, b"filename") {
-        Lookup::Holds(cell) => NameBlock::Named {
+        Ok(cell) => Ok(NameBlock {
             name: film_name::name_in(cell),
             next,
-        },
-        Lookup::NoTable(refusal) => {
+        }),
+        Err(refusal) => {
             let cause = refusal.cause;
-            NameBlock::NoName(Refusal { cause, place: 0 })
+            refusal::refused(cause, 0)
         }
     }
 }
@@ -149,13 +144,11 @@ pub fn marker_block(
     marker: &[u8],
     unmarked: Cause,
     place: usize,
-) -> BlockAnswer
+) -> Result<usize, Refusal>
     ensures { result ≡ marker_block bytes.now letters missing marker.now unmarked place }
 {
-    match head_at(bytes, letters, missing, place) {
-        BlockAnswer::Next(next) => marked_at(bytes, marker, unmarked, place, next),
-        BlockAnswer::NoBlock(refusal) => BlockAnswer::NoBlock(refusal),
-    }
+    let next = head_at(bytes, letters, missing, place)?;
+    marked_at(bytes, marker, unmarked, place, next)
 }
 
 // The block at a place, with a table.
@@ -165,13 +158,11 @@ pub fn table_block(
     letters: usize,
     missing: Cause,
     place: usize,
-) -> BlockAnswer
+) -> Result<usize, Refusal>
     ensures { result ≡ table_block bytes.now reading letters missing place }
 {
-    match head_at(bytes, letters, missing, place) {
-        BlockAnswer::Next(next) => table_at(bytes, reading, place, next),
-        BlockAnswer::NoBlock(refusal) => BlockAnswer::NoBlock(refusal),
-    }
+    let next = head_at(bytes, letters, missing, place)?;
+    table_at(bytes, reading, place, next)
 }
 
 // The block at a place, with a table that gives a codec.
@@ -182,23 +173,19 @@ pub fn codec_block(
     missing: Cause,
     column: &[u8],
     place: usize,
-) -> CodecBlock
+) -> Result<CodecBlock, Refusal>
     ensures { result ≡ codec_block bytes.now reading letters missing column.now place }
 {
-    match head_at(bytes, letters, missing, place) {
-        BlockAnswer::Next(next) => codec_at(bytes, reading, column, place, next),
-        BlockAnswer::NoBlock(refusal) => CodecBlock::NoCodec(refusal),
-    }
+    let next = head_at(bytes, letters, missing, place)?;
+    codec_at(bytes, reading, column, place, next)
 }
 
 // The block at 0, with a table that gives the name.
-pub fn name_block(bytes: &[u8], reading: Reading) -> NameBlock
+pub fn name_block(bytes: &[u8], reading: Reading) -> Result<NameBlock, Refusal>
     ensures { result ≡ name_block bytes.now reading }
 {
-    match head_at(bytes, signature::CRID, Cause::NoFilm, 0) {
-        BlockAnswer::Next(next) => name_at(bytes, reading, next),
-        BlockAnswer::NoBlock(refusal) => NameBlock::NoName(refusal),
-    }
+    let next = head_at(bytes, signature::CRID, Cause::NoFilm, 0)?;
+    name_at(bytes, reading, next)
 }
 
 // What stands next, at a place.
@@ -223,14 +210,14 @@ fn chunks_after(place: usize) -> usize
 }
 
 // The last block, at a place, whose size is not read: where chunks begin.
-pub fn last_block(bytes: &[u8], place: usize) -> BlockAnswer
+pub fn last_block(bytes: &[u8], place: usize) -> Result<usize, Refusal>
     ensures { result ≡ last_block bytes.now place }
 {
     if word::left_from(bytes, place) < signature::LETTERS {
-        return refused(Cause::RanOut, place);
+        return refusal::refused(Cause::RanOut, place);
     }
     if word::read32(bytes, place) != signature::SFV {
-        return refused(Cause::NoVideo, place);
+        return refusal::refused(Cause::NoVideo, place);
     }
     let chunks = chunks_after(place);
     marked_at(bytes, b"#METADATA END", Cause::NoMetadataEnd, place, chunks)

@@ -1,4 +1,6 @@
 -- A text or data cell that is read lies within the body. Assumes nothing.
+use Rattle.std.specs.Prelude.{Option, Some, None, Result, Ok, Err}
+use Rattle.refusal.specs.declared.Cause.{Cause}
 use mathlib.Core.Path.{◌≡◌, refl}
 use mathlib.Core.List.{List}
 use mathlib.Core.Bool.{Bool, true, false, cond}
@@ -13,10 +15,6 @@ use Rattle.refusal.specs.declared.Cause.TheVariants.{RanOut, UnknownType}
 use Rattle.layout.specs.declared.Layout.{Layout}
 use Rattle.cell.specs.declared.Cell.{Cell}
 use Rattle.cell.specs.declared.Cell.TheVariants.{Nothing, Unsigned, Signed, Float, NotANumber, Text, Data}
-use Rattle.cell.specs.declared.CellAnswer.{CellAnswer}
-use Rattle.cell.specs.declared.CellAnswer.TheVariants.{Got, Refused}
-use Rattle.cell.specs.declared.Ending.{Ending}
-use Rattle.cell.specs.declared.Ending.TheVariants.{At, Endless}
 use Rattle.cell.specs.Types.{Kind, u8, i8, u16, i16, u32, i32, u64, f32, text, blob, unknown, kind_of, width_of}
 use Rattle.cell.specs.Parts.{end_of, text_to}
 use Rattle.cell.specs.Cells.{value_at, cell_at, zero_of, zero_cell}
@@ -33,23 +31,23 @@ Inside b (Text a n) = a + n ≤ length b
 Inside b (Data a n) = a + n ≤ length b
 
 -- the same of an answer: what is refused holds nothing
-abbrev pub Kept : List ℕ → CellAnswer → Type 0
-Kept b (Got c) = Inside b c
-Kept b (Refused cause) = Unit
+abbrev pub Kept : List ℕ → Result Cell Cause → Type 0
+Kept b (Ok c) = Inside b c
+Kept b (Err cause) = Unit
 
 module _ (b : List ℕ) where
-  text_kept : (place : ℕ) (x : Ending) → end_of b place ≡ x → Kept b (text_to (place - 24) x)
-  text_kept place Endless e = tt
-  text_kept place (At z) e = omega (arith, ended b place z e)
+  text_kept : (place : ℕ) (x : Option ℕ) → end_of b place ≡ x → Kept b (text_to (place - 24) x)
+  text_kept place None e = tt
+  text_kept place (Some z) e = omega (arith, ended b place z e)
 
   data_kept : (t u r : Bool) (a n : ℕ) → leb (a + n) (length b) ≡ r
-      → Kept b (cond t (Got (Data 0 0)) (cond u (Refused RanOut) (cond r (Got (Data a n)) (Refused RanOut))))
+      → Kept b (cond t (Ok (Data 0 0)) (cond u (Err RanOut) (cond r (Ok (Data a n)) (Err RanOut))))
   data_kept true u r a n e = omega arith
   data_kept false true r a n e = tt
   data_kept false false true a n e = leb-true (a + n) (length b) e
   data_kept false false false a n e = tt
 
-  float_kept : (t : Bool) (n : ℕ) → Kept b (Got (cond t (Float (of_bits binary32 n)) (NotANumber n)))
+  float_kept : (t : Bool) (n : ℕ) → Kept b (Ok (cond t (Float (of_bits binary32 n)) (NotANumber n)))
   float_kept true n = tt
   float_kept false n = tt
 
@@ -73,7 +71,7 @@ module _ (b : List ℕ) where
   unfolding cell_at
   cell_kept k p l = go (eqb (width_of k) 0) (leb (p + width_of k) (length b))
     where
-      go : (t u : Bool) → Kept b (cond t (Refused (UnknownType k)) (cond u (value_at (kind_of k) b p l) (Refused RanOut)))
+      go : (t u : Bool) → Kept b (cond t (Err (UnknownType k)) (cond u (value_at (kind_of k) b p l) (Err RanOut)))
       go true u = tt
       go false true = value_kept (kind_of k) p l
       go false false = tt
@@ -95,6 +93,6 @@ module _ (b : List ℕ) where
   unfolding zero_cell
   zero_cell_kept k = go (eqb (width_of k) 0)
     where
-      go : (t : Bool) → Kept b (cond t (Refused (UnknownType k)) (Got (zero_of (kind_of k))))
+      go : (t : Bool) → Kept b (cond t (Err (UnknownType k)) (Ok (zero_of (kind_of k))))
       go true = tt
       go false = zero_kept (kind_of k)

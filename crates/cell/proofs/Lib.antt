@@ -1,7 +1,6 @@
 pub mod Entries
 pub mod Scan
 pub mod KindLaws
-pub mod SignLaws
 pub mod OneAnswer
 pub mod Promises
 pub mod BoundLaws

@@ -1,4 +1,5 @@
 pub mod Types
+pub mod ValueTypes
 pub mod Parts
 pub mod Cells
 pub mod CellNumbers

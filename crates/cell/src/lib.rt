@@ -5,9 +5,10 @@
 ghost use Rattle.std.specs.Prelude.{◌≡◌, ◌+◌, ◌≤◌, ◌<◌, ◌^◌, length};
 ghost use Rattle.std.specs.Float.{binary32};
 ghost use Rattle.std.specs.Float.Ieee.{to_bits};
-ghost use Rattle.cell.specs.Types.{kind_of, width_of};
+ghost use Rattle.cell.specs.Types.{width, width_of};
+ghost use Rattle.cell.specs.ValueTypes.{type_by, kind_by};
 ghost use Rattle.cell.specs.Parts.{zero_from, end_of, text_at, data_at};
-ghost use Rattle.cell.specs.Cells.{signed_of, bits_of, float_cell, value_at, cell_at, zero_of, zero_cell};
+ghost use Rattle.cell.specs.Cells.{float_cell, value_at, cell_at, zero_of, zero_cell};
 ghost use Rattle.cell.specs.CellNumbers.{case_of, value_of, length_of};
 ghost use Rattle.cell.specs.CellParts.{start_of, PartOf};
 
@@ -15,7 +16,7 @@ use layout::{BODY, Layout};
 use refusal::Cause;
 
 // What a cell holds. A float whose bits are a NaN's keeps its bits. Parts are parts of the table's body.
-#[derive(Clone, Copy)]
+#[derive(Clone, Copy, Debug, PartialEq)]
 pub enum Cell {
     Nothing,
     Unsigned(u64),
@@ -26,50 +27,57 @@ pub enum Cell {
     Data { start: usize, len: usize },
 }
 
-// A cell, or why there is none.
-#[derive(Clone, Copy)]
-pub enum CellAnswer {
-    Got(Cell),
-    Refused(Cause),
+// The types that a value can have.
+#[derive(Clone, Copy, Debug, PartialEq, Eq)]
+enum ValueType {
+    U8,
+    I8,
+    U16,
+    I16,
+    U32,
+    I32,
+    U64,
+    F32,
+    // The offset of a string.
+    Text,
+    // The offset and the size of data.
+    Blob,
 }
 
-// Where a text ends: at its zero byte, or nowhere in the body.
-#[derive(Clone, Copy)]
-pub enum Ending {
-    At(usize),
-    Endless,
-}
+// A type by its number. 7, 9 and all from 12 on are unknown.
+impl TryFrom<u8> for ValueType {
+    type Error = Cause;
 
-// The bytes that a value of each type takes; 0 marks an unknown type.
-const WIDTHS: [u8; 16] = [1, 1, 2, 2, 4, 4, 8, 0, 4, 0, 4, 8, 0, 0, 0, 0];
+    ghost try_from_gives = { λ kind answer. answer ≡ type_by kind };
 
-// A byte as a wider number.
-fn wide(byte: u8) -> usize
-    ensures { (result ≡ byte) × (result < 256) }
-{
-    byte as usize
+    fn try_from(kind: u8) -> Result<Self, Cause> {
+        match kind {
+            0 => Ok(ValueType::U8),
+            1 => Ok(ValueType::I8),
+            2 => Ok(ValueType::U16),
+            3 => Ok(ValueType::I16),
+            4 => Ok(ValueType::U32),
+            5 => Ok(ValueType::I32),
+            6 => Ok(ValueType::U64),
+            8 => Ok(ValueType::F32),
+            10 => Ok(ValueType::Text),
+            11 => Ok(ValueType::Blob),
+            _ => Err(Cause::UnknownType(kind)),
+        }
+    }
 }
 
 // The bytes that a value of a type takes, 0 for an unknown type.
 pub fn width_of(kind: u8) -> usize
     ensures { (result ≡ width_of kind) × (result < 256) }
 {
-    if kind < 16 {
-        let entry = kind as usize;
-        return wide(WIDTHS[entry]);
+    match ValueType::try_from(kind) {
+        Ok(ValueType::U8 | ValueType::I8) => 1,
+        Ok(ValueType::U16 | ValueType::I16) => 2,
+        Ok(ValueType::U32 | ValueType::I32 | ValueType::F32 | ValueType::Text) => 4,
+        Ok(ValueType::U64 | ValueType::Blob) => 8,
+        Err(_) => 0,
     }
-    0
-}
-
-// The signed number that bits stand for. `top` is the largest pattern of their width: 0xFF, 0xFFFF or 0xFFFF_FFFF.
-fn signed_of(bits: usize, top: usize) -> i32
-    requires { (bits ≤ top) × (top < 2 ^ 32) }
-    ensures { result ≡ signed_of bits top }
-{
-    if bits <= top / 2 {
-        return bits as i32;
-    }
-    !((top - bits) as i32)
 }
 
 // The float that 32 bits stand for, or a NaN's bits.
@@ -85,128 +93,114 @@ fn float_of(pattern: usize) -> Cell
 }
 
 // The first zero byte at or after a body byte.
-fn zero_from(body: &[u8], from: usize) -> Ending
+fn zero_from(body: &[u8], from: usize) -> Option<usize>
     ensures { result ≡ zero_from body.now from }
 {
-    let mut i = from;
-    while i < body.len() {
+    for i in from..body.len() {
         if body[i] == 0 {
-            return Ending::At(i);
+            return Some(i);
         }
-        i += 1;
     }
-    Ending::Endless
+    None
 }
 
 // Where the text at a place of the table ends. The Rust's `read_cstring`.
-pub fn end_of(body: &[u8], place: usize) -> Ending
+pub fn end_of(body: &[u8], place: usize) -> Option<usize>
     ensures { result ≡ end_of body.now place }
 {
     if place < BODY {
-        return Ending::Endless;
+        return None;
     }
     zero_from(body, place - BODY)
 }
 
 // The text at a place of the table.
-fn text_at(body: &[u8], place: usize) -> CellAnswer
+fn text_at(body: &[u8], place: usize) -> Result<Cell, Cause>
     ensures { result ≡ text_at body.now place }
 {
-    match end_of(body, place) {
-        Ending::At(end) => {
-            let start = place - BODY;
-            let len = end - start;
-            CellAnswer::Got(Cell::Text { start, len })
-        }
-        Ending::Endless => CellAnswer::Refused(Cause::RanOut),
-    }
+    let end = end_of(body, place).ok_or(Cause::RanOut)?;
+    let start = place - BODY;
+    Ok(Cell::Text {
+        start,
+        len: end - start,
+    })
 }
 
 // The data of a size at a place of the table. None at all lies anywhere.
-pub fn data_at(body: &[u8], place: usize, size: usize) -> CellAnswer
+pub fn data_at(body: &[u8], place: usize, size: usize) -> Result<Cell, Cause>
     ensures { result ≡ data_at body.now place size }
 {
     if size == 0 {
-        return CellAnswer::Got(Cell::Data { start: 0, len: 0 });
+        return Ok(Cell::Data { start: 0, len: 0 });
     }
     if place < BODY {
-        return CellAnswer::Refused(Cause::RanOut);
+        return Err(Cause::RanOut);
     }
     let start = place - BODY;
     if word::left_from(body, start) < size {
-        return CellAnswer::Refused(Cause::RanOut);
+        return Err(Cause::RanOut);
     }
-    CellAnswer::Got(Cell::Data { start, len: size })
+    Ok(Cell::Data { start, len: size })
 }
 
 // The value of a type whose bytes stand at a body byte.
-fn value_at(body: &[u8], kind: u8, at: usize, layout: Layout) -> CellAnswer
-    requires { at + width_of kind ≤ length body.now }
-    ensures { result ≡ value_at (kind_of kind) body.now at layout }
+#[tactic(auto, unfolding(crate::specs::Cells::value_at))]
+fn value_at(body: &[u8], value: ValueType, at: usize, layout: Layout) -> Result<Cell, Cause>
+    requires { at + width (kind_by value) ≤ length body.now }
+    ensures { result ≡ value_at (kind_by value) body.now at layout }
 {
-    match kind {
-        0 => CellAnswer::Got(Cell::Unsigned(word::read8(body, at) as u64)),
-        1 => CellAnswer::Got(Cell::Signed(signed_of(word::read8(body, at), 0xFF))),
-        2 => CellAnswer::Got(Cell::Unsigned(word::read16(body, at) as u64)),
-        3 => CellAnswer::Got(Cell::Signed(signed_of(word::read16(body, at), 0xFFFF))),
-        4 => CellAnswer::Got(Cell::Unsigned(word::read32(body, at) as u64)),
-        5 => CellAnswer::Got(Cell::Signed(signed_of(word::read32(body, at), 0xFFFF_FFFF))),
-        6 => CellAnswer::Got(Cell::Unsigned(word::read64(body, at) as u64)),
-        8 => CellAnswer::Got(float_of(word::read32(body, at))),
-        10 => text_at(body, (layout.strings as usize) + word::read32(body, at)),
-        11 => data_at(
+    match value {
+        ValueType::U8 => Ok(Cell::Unsigned(word::read8(body, at) as u64)),
+        ValueType::I8 => Ok(Cell::Signed(i32::from((word::read8(body, at) as u8).cast_signed()))),
+        ValueType::U16 => Ok(Cell::Unsigned(word::read16(body, at) as u64)),
+        ValueType::I16 => Ok(Cell::Signed(i32::from(
+            (word::read16(body, at) as u16).cast_signed(),
+        ))),
+        ValueType::U32 => Ok(Cell::Unsigned(word::read32(body, at) as u64)),
+        ValueType::I32 => Ok(Cell::Signed((word::read32(body, at) as u32).cast_signed())),
+        ValueType::U64 => Ok(Cell::Unsigned(word::read64(body, at) as u64)),
+        ValueType::F32 => Ok(float_of(word::read32(body, at))),
+        ValueType::Text => text_at(body, (layout.strings as usize) + word::read32(body, at)),
+        ValueType::Blob => data_at(
             body,
             (layout.blobs as usize) + word::read32(body, at),
             word::read32(body, at + 4),
         ),
-        _ => CellAnswer::Got(Cell::Nothing),
     }
 }
 
 // The cell of a type at a body byte. The Rust's `read_column_data`.
-pub fn read_cell(body: &[u8], kind: u8, at: usize, layout: Layout) -> CellAnswer
+pub fn read_cell(body: &[u8], kind: u8, at: usize, layout: Layout) -> Result<Cell, Cause>
     ensures { result ≡ cell_at body.now kind at layout }
 {
-    let width = width_of(kind);
-    if width == 0 {
-        return CellAnswer::Refused(Cause::UnknownType(kind));
+    let value = ValueType::try_from(kind)?;
+    if word::left_from(body, at) < width_of(kind) {
+        return Err(Cause::RanOut);
     }
-    if word::left_from(body, at) < width {
-        return CellAnswer::Refused(Cause::RanOut);
-    }
-    value_at(body, kind, at, layout)
+    value_at(body, value, at, layout)
 }
 
-// What a cell of a known type holds where nothing is stored for it.
-fn zero_of(kind: u8) -> Cell
-    ensures { result ≡ zero_of (kind_of kind) }
+// What a cell of a type holds where nothing is stored for it.
+fn zero_of(value: ValueType) -> Cell
+    ensures { result ≡ zero_of (kind_by value) }
 {
-    match kind {
-        0 => Cell::Unsigned(0),
-        1 => Cell::Signed(0),
-        2 => Cell::Unsigned(0),
-        3 => Cell::Signed(0),
-        4 => Cell::Unsigned(0),
-        5 => Cell::Signed(0),
-        6 => Cell::Unsigned(0),
-        8 => float_of(0),
-        10 => Cell::Text { start: 0, len: 0 },
-        11 => Cell::Data { start: 0, len: 0 },
-        _ => Cell::Nothing,
+    match value {
+        ValueType::U8 | ValueType::U16 | ValueType::U32 | ValueType::U64 => Cell::Unsigned(0),
+        ValueType::I8 | ValueType::I16 | ValueType::I32 => Cell::Signed(0),
+        ValueType::F32 => float_of(0),
+        ValueType::Text => Cell::Text { start: 0, len: 0 },
+        ValueType::Blob => Cell::Data { start: 0, len: 0 },
     }
 }
 
 // The cell of a type in a column that stores nothing: 0, or an empty part at byte 0 of the slice.
-pub fn zero_cell(kind: u8) -> CellAnswer
+pub fn zero_cell(kind: u8) -> Result<Cell, Cause>
     ensures { result ≡ zero_cell kind }
 {
-    if width_of(kind) == 0 {
-        return CellAnswer::Refused(Cause::UnknownType(kind));
-    }
-    CellAnswer::Got(zero_of(kind))
+    Ok(zero_of(ValueType::try_from(kind)?))
 }
 
-// The number of a cell's case.
+// The number of a cell's case, as C has it.
 pub fn case_of(cell: Cell) -> u8
     ensures { result ≡ case_of cell }
 {
@@ -214,21 +208,10 @@ pub fn case_of(cell: Cell) -> u8
         Cell::Nothing => 0,
         Cell::Unsigned(_) => 1,
         Cell::Signed(_) => 2,
-        Cell::Float(_) => 3,
-        Cell::NotANumber(_) => 3,
-        Cell::Text { start: _, len: _ } => 4,
-        Cell::Data { start: _, len: _ } => 5,
+        Cell::Float(_) | Cell::NotANumber(_) => 3,
+        Cell::Text { .. } => 4,
+        Cell::Data { .. } => 5,
     }
-}
-
-// The 64 bits of a signed number.
-fn signed_bits(number: i32) -> u64
-    ensures { result ≡ bits_of number 0xFFFFFFFFFFFFFFFF }
-{
-    if number < 0 {
-        return !((!number) as u64);
-    }
-    number as u64
 }
 
 // The bits given for a `Float` that is a NaN. No cell that was read holds one: a NaN that was read is a `NotANumber`.
@@ -251,11 +234,10 @@ pub fn value_of(cell: Cell) -> u64
     match cell {
         Cell::Nothing => 0,
         Cell::Unsigned(number) => number,
-        Cell::Signed(number) => signed_bits(number),
-        Cell::Float(number) => float_bits(number) as u64,
-        Cell::NotANumber(bits) => bits as u64,
-        Cell::Text { start, len: _ } => start as u64,
-        Cell::Data { start, len: _ } => start as u64,
+        Cell::Signed(number) => i64::from(number).cast_unsigned(),
+        Cell::Float(number) => u64::from(float_bits(number)),
+        Cell::NotANumber(bits) => u64::from(bits),
+        Cell::Text { start, .. } | Cell::Data { start, .. } => start as u64,
     }
 }
 
@@ -264,13 +246,8 @@ fn start_of(cell: Cell) -> usize
     ensures { result ≡ start_of cell }
 {
     match cell {
-        Cell::Nothing => 0,
-        Cell::Unsigned(_) => 0,
-        Cell::Signed(_) => 0,
-        Cell::Float(_) => 0,
-        Cell::NotANumber(_) => 0,
-        Cell::Text { start, len: _ } => start,
-        Cell::Data { start, len: _ } => start,
+        Cell::Text { start, .. } | Cell::Data { start, .. } => start,
+        _ => 0,
     }
 }
 
@@ -279,13 +256,8 @@ pub fn length_of(cell: Cell) -> usize
     ensures { result ≡ length_of cell }
 {
     match cell {
-        Cell::Nothing => 0,
-        Cell::Unsigned(_) => 0,
-        Cell::Signed(_) => 0,
-        Cell::Float(_) => 0,
-        Cell::NotANumber(_) => 0,
-        Cell::Text { start: _, len } => len,
-        Cell::Data { start: _, len } => len,
+        Cell::Text { len, .. } | Cell::Data { len, .. } => len,
+        _ => 0,
     }
 }
 

@@ -1,4 +1,5 @@
 -- The cases of a chunk, one for each return of the code, in the order of the refusals. Assumes nothing.
+use Rattle.std.specs.Prelude.{Some, None, Ok}
 use mathlib.Core.Path.{◌≡◌}
 use mathlib.Core.List.{List}
 use mathlib.Core.Bool.{true, false}
@@ -13,7 +14,6 @@ use Rattle.word.specs.Numbers.{be32}
 use Rattle.signature.specs.Signatures.{SFV, SFA, contents_end, stands_at}
 use Rattle.chunk.specs.declared.Kind.TheVariants.{Video, Audio, Other, End}
 use Rattle.chunk.specs.declared.Opening.{Opening}
-use Rattle.chunk.specs.declared.ChunkStep.TheVariants.{Over, Found}
 use Rattle.chunk.specs.Openings.{kind_at, opening_at}
 use Rattle.chunk.specs.Chunks.{is_taken, offset_of, is_short, chunk_of, refused_at, ended_at, held_at, taken_at, opened_at, chunk_at}
 
@@ -51,7 +51,7 @@ module _ (total : ℕ) (c : ℕ) (opening : Opening) (offset : ℕ) where
     unfolding held_at
     ran_out h = rw (le-ltb _ _ large, lt-ltb total (c + offset + n) h)
 
-    pub present : c + offset + n ≤ total → Found (chunk_of c opening offset n) ≡ held_at total c opening offset
+    pub present : c + offset + n ≤ total → Ok (Some (chunk_of c opening offset n)) ≡ held_at total c opening offset
     unfolding held_at
     present h = rw (le-ltb _ _ large, le-ltb total (c + offset + n) h)
 
@@ -69,12 +69,12 @@ module _ (total : ℕ) (reading : Applied) (c : ℕ) where
   unfolding opened_at
   taken opening e = rw e
 
-  pub skipped : (opening : Opening) → is_taken reading opening.kind opening.channel ≡ false → Found (chunk_of c opening 0x20 0) ≡ opened_at total reading c opening
+  pub skipped : (opening : Opening) → is_taken reading opening.kind opening.channel ≡ false → Ok (Some (chunk_of c opening 0x20 0)) ≡ opened_at total reading c opening
   unfolding opened_at
   skipped opening e = rw e
 
 module _ (container : List ℕ) (reading : Applied) (c : ℕ) where
-  pub over : length container - c < 4 → Over ≡ chunk_at container reading c
+  pub over : length container - c < 4 → (Ok None) ≡ chunk_at container reading c
   unfolding chunk_at
   over h = rw (lt-ltb _ _ h)
 

@@ -1,5 +1,6 @@
 -- What is known of a chunk that was found: it has its 45 bytes, its kind and its channel are its opening's, its data type is below 4, its payload lies behind its first 8 bytes, no
 -- further than its header reaches and in the container, and the next place lies past its length. All this in both payload modes. Assumes nothing.
+use Rattle.std.specs.Prelude.{Option, Some, None, Result, Ok, Err}
 use mathlib.Core.Path.{◌≡◌, refl}
 use mathlib.Core.Logic.{◌⊎◌, inl, inr}
 use mathlib.Core.List.{List}
@@ -19,8 +20,6 @@ use Rattle.reading.specs.declared.PayloadMode.TheVariants.{Original, AfterHeader
 use Rattle.reading.specs.declared.Applied.{Applied}
 use Rattle.chunk.specs.declared.Opening.{Opening}
 use Rattle.chunk.specs.declared.Chunk.{Chunk}
-use Rattle.chunk.specs.declared.ChunkStep.{ChunkStep}
-use Rattle.chunk.specs.declared.ChunkStep.TheVariants.{Over, Found, Refused}
 use Rattle.chunk.specs.Openings.{kind_at, opening_at}
 use Rattle.chunk.specs.Chunks.{is_taken, offset_of, is_short, chunk_of, refused_at, held_at, taken_at, opened_at, chunk_at}
 
@@ -36,11 +35,11 @@ pub record Within (container : List ℕ) (c : ℕ) (chunk : Chunk) : Type 0 wher
   pub past : c + 8 + chunk.len ≤ chunk.next
 
 -- what was found past a test did not stop there
-pub not_over : (t : Bool) (chunk : Chunk) (next : ChunkStep) → cond t Over next ≡ Found chunk → (t ≡ false) × (next ≡ Found chunk)
+pub not_over : (t : Bool) (chunk : Chunk) (next : Result (Option Chunk) Refusal) → cond t (Ok None) next ≡ Ok (Some chunk) → (t ≡ false) × (next ≡ Ok (Some chunk))
 not_over true chunk next e = let z : ◌≡◌ {A = ℕ} 0 1 = cc in absurd (omega arith)
 not_over false chunk next e = (refl, e)
 
-pub not_refused : (t : Bool) (c : ℕ) (why : Cause) (chunk : Chunk) (next : ChunkStep) → cond t (refused_at c why) next ≡ Found chunk → (t ≡ false) × (next ≡ Found chunk)
+pub not_refused : (t : Bool) (c : ℕ) (why : Cause) (chunk : Chunk) (next : Result (Option Chunk) Refusal) → cond t (refused_at c why) next ≡ Ok (Some chunk) → (t ≡ false) × (next ≡ Ok (Some chunk))
 not_refused true c why chunk next e = let z : ◌≡◌ {A = ℕ} 0 1 = cc in absurd (omega arith)
 not_refused false c why chunk next e = (refl, e)
 
@@ -55,13 +54,13 @@ module _ (container : List ℕ) (c : ℕ) (chunk : Chunk) (enough : 45 ≤ lengt
 
   -- the chunk at c with a payload of n bytes
   of_length : (offset n : ℕ) → 8 ≤ offset → offset ≤ 0x20 + opening.header → c + offset + n ≤ length container → n ≤ opening.block
-      → Found (chunk_of c opening offset n) ≡ Found chunk → Within container c chunk
+      → ◌≡◌ {A = Result (Option Chunk) Refusal} (Ok (Some (chunk_of c opening offset n))) (Ok (Some chunk)) → Within container c chunk
   unfolding chunk_of opening_at
   of_length offset n least most h k e =
       let f : chunk_of c opening offset n ≡ chunk = cc in
       rw (← f) (record { whole = enough; start = refl; kind = refl; channel = refl; typed = omega arith; behind = omega arith; near = omega arith; inside = h; past = omega arith })
 
-  of_held : (offset : ℕ) → 8 ≤ offset → offset ≤ 0x20 + opening.header → held_at (length container) c opening offset ≡ Found chunk → Within container c chunk
+  of_held : (offset : ℕ) → 8 ≤ offset → offset ≤ 0x20 + opening.header → held_at (length container) c opening offset ≡ Ok (Some chunk) → Within container c chunk
   unfolding held_at
   of_held offset least most e =
       let spare = opening.header + opening.footer in
@@ -70,17 +69,17 @@ module _ (container : List ℕ) (c : ℕ) (chunk : Chunk) (enough : 45 ≤ lengt
       let b = not_refused (ltb (length container) (c + offset + n)) c RanOut chunk _ a.1 in
       of_length offset n least most (ltb-false (length container) (c + offset + n) b.0) (omega arith) b.1
 
-  of_taken : (mode : PayloadMode) → taken_at (length container) mode c opening ≡ Found chunk → Within container c chunk
+  of_taken : (mode : PayloadMode) → taken_at (length container) mode c opening ≡ Ok (Some chunk) → Within container c chunk
   unfolding taken_at
   of_taken mode e =
       let bounds = offset_bounds mode opening in
       of_held (offset_of mode opening) bounds.0 bounds.1 (not_refused (is_short mode opening) c ShortHeader chunk _ e).1
 
-  of_either : (mode : PayloadMode) (t : Bool) → cond t (taken_at (length container) mode c opening) (Found (chunk_of c opening 0x20 0)) ≡ Found chunk → Within container c chunk
+  of_either : (mode : PayloadMode) (t : Bool) → cond t (taken_at (length container) mode c opening) (Ok (Some (chunk_of c opening 0x20 0))) ≡ Ok (Some chunk) → Within container c chunk
   of_either mode true e = of_taken mode e
   of_either mode false e = of_length 0x20 0 (omega arith) (omega arith) (omega arith) (omega arith) e
 
-pub found : (container : List ℕ) (reading : Applied) (c : ℕ) (chunk : Chunk) → chunk_at container reading c ≡ Found chunk → Within container c chunk
+pub found : (container : List ℕ) (reading : Applied) (c : ℕ) (chunk : Chunk) → chunk_at container reading c ≡ Ok (Some chunk) → Within container c chunk
 unfolding chunk_at opened_at
 found container reading c chunk e =
     let a = not_over (ltb (length container - c) 4) chunk _ e in
@@ -96,7 +95,7 @@ module _ (container : List ℕ) (mode : PayloadMode) (c : ℕ) (chunk : Chunk) w
   abbrev spare : ℕ
   spare = here.header + here.footer
 
-  made_taken : taken_at (length container) mode c here ≡ Found chunk → (chunk_of c here (offset_of mode here) (here.block - spare) ≡ chunk) × (spare ≤ here.block)
+  made_taken : taken_at (length container) mode c here ≡ Ok (Some chunk) → (chunk_of c here (offset_of mode here) (here.block - spare) ≡ chunk) × (spare ≤ here.block)
   unfolding taken_at held_at
   made_taken e =
       let offset = offset_of mode here in
@@ -106,15 +105,15 @@ module _ (container : List ℕ) (mode : PayloadMode) (c : ℕ) (chunk : Chunk) w
       let d = not_refused (ltb (length container) (c + offset + n)) c RanOut chunk _ b.1 in
       (cc, ltb-false here.block spare b.0)
 
-  made_skipped : Found (chunk_of c here 0x20 0) ≡ Found chunk → chunk_of c here 0x20 0 ≡ chunk
+  made_skipped : ◌≡◌ {A = Result (Option Chunk) Refusal} (Ok (Some (chunk_of c here 0x20 0))) (Ok (Some chunk)) → chunk_of c here 0x20 0 ≡ chunk
   made_skipped e = cc
 
 -- past both tests of what is left
-module _ (container : List ℕ) (reading : Applied) (c : ℕ) (chunk : Chunk) (e : chunk_at container reading c ≡ Found chunk) where
+module _ (container : List ℕ) (reading : Applied) (c : ℕ) (chunk : Chunk) (e : chunk_at container reading c ≡ Ok (Some chunk)) where
   abbrev takes : Bool
   takes = is_taken reading (opening_at container c).kind (opening_at container c).channel
 
-  opened : cond takes (taken_at (length container) reading.payloads c (opening_at container c)) (Found (chunk_of c (opening_at container c) 0x20 0)) ≡ Found chunk
+  opened : cond takes (taken_at (length container) reading.payloads c (opening_at container c)) (Ok (Some (chunk_of c (opening_at container c) 0x20 0))) ≡ Ok (Some chunk)
   unfolding chunk_at opened_at
   opened =
       let a = not_over (ltb (length container - c) 4) chunk _ e in
@@ -136,47 +135,47 @@ RefusedThere mode c refusal =
     (refusal.place ≡ c) × ((refusal.cause ≡ RanOut) ⊎ ((refusal.cause ≡ TooSmall) ⊎ ((refusal.cause ≡ ShortHeader) × (mode ≡ AfterHeader))))
 
 module _ (mode : PayloadMode) (c : ℕ) (refusal : Refusal) where
-  ran_out : refused_at c RanOut ≡ Refused refusal → RefusedThere mode c refusal
+  ran_out : refused_at c RanOut ≡ Err refusal → RefusedThere mode c refusal
   ran_out e = (cc, inl cc)
 
-  too_small : refused_at c TooSmall ≡ Refused refusal → RefusedThere mode c refusal
+  too_small : refused_at c TooSmall ≡ Err refusal → RefusedThere mode c refusal
   too_small e = (cc, inr (inl cc))
 
-  short_header : refused_at c ShortHeader ≡ Refused refusal → mode ≡ AfterHeader → RefusedThere mode c refusal
+  short_header : refused_at c ShortHeader ≡ Err refusal → mode ≡ AfterHeader → RefusedThere mode c refusal
   short_header e m = (cc, inr (inr (cc, m)))
 
-  found_not : (chunk : Chunk) → Found chunk ≡ Refused refusal → RefusedThere mode c refusal
+  found_not : (chunk : Chunk) → Ok (Some chunk) ≡ Err refusal → RefusedThere mode c refusal
   found_not chunk e = let z : ◌≡◌ {A = ℕ} 0 1 = cc in absurd (omega arith)
 
-  over_not : Over ≡ Refused refusal → RefusedThere mode c refusal
+  over_not : ◌≡◌ {A = Result (Option Chunk) Refusal} (Ok None) (Err refusal) → RefusedThere mode c refusal
   over_not e = let z : ◌≡◌ {A = ℕ} 0 1 = cc in absurd (omega arith)
 
-  by_held : (t u : Bool) (chunk : Chunk) → cond t (refused_at c TooSmall) (cond u (refused_at c RanOut) (Found chunk)) ≡ Refused refusal → RefusedThere mode c refusal
+  by_held : (t u : Bool) (chunk : Chunk) → cond t (refused_at c TooSmall) (cond u (refused_at c RanOut) (Ok (Some chunk))) ≡ Err refusal → RefusedThere mode c refusal
   by_held true u chunk e = too_small e
   by_held false true chunk e = ran_out e
   by_held false false chunk e = found_not chunk e
 
-by_mode : (mode : PayloadMode) (c : ℕ) (refusal : Refusal) (opening : Opening) (next : ChunkStep) → (next ≡ Refused refusal → RefusedThere mode c refusal)
-    → cond (is_short mode opening) (refused_at c ShortHeader) next ≡ Refused refusal → RefusedThere mode c refusal
+by_mode : (mode : PayloadMode) (c : ℕ) (refusal : Refusal) (opening : Opening) (next : Result (Option Chunk) Refusal) → (next ≡ Err refusal → RefusedThere mode c refusal)
+    → cond (is_short mode opening) (refused_at c ShortHeader) next ≡ Err refusal → RefusedThere mode c refusal
 by_mode Original c refusal opening next rest e = rest e
 by_mode AfterHeader c refusal opening next rest e = by_test (ltb opening.header 0x18) e
   where
-    by_test : (t : Bool) → cond t (refused_at c ShortHeader) next ≡ Refused refusal → RefusedThere AfterHeader c refusal
+    by_test : (t : Bool) → cond t (refused_at c ShortHeader) next ≡ Err refusal → RefusedThere AfterHeader c refusal
     by_test true e = short_header AfterHeader c refusal e refl
     by_test false e = rest e
 
-by_taken : (mode : PayloadMode) (c : ℕ) (refusal : Refusal) (t : Bool) (next : ChunkStep) (chunk : Chunk) → (next ≡ Refused refusal → RefusedThere mode c refusal)
-    → cond t next (Found chunk) ≡ Refused refusal → RefusedThere mode c refusal
+by_taken : (mode : PayloadMode) (c : ℕ) (refusal : Refusal) (t : Bool) (next : Result (Option Chunk) Refusal) (chunk : Chunk) → (next ≡ Err refusal → RefusedThere mode c refusal)
+    → cond t next (Ok (Some chunk)) ≡ Err refusal → RefusedThere mode c refusal
 by_taken mode c refusal true next chunk rest e = rest e
 by_taken mode c refusal false next chunk rest e = found_not mode c refusal chunk e
 
-by_left : (mode : PayloadMode) (c : ℕ) (refusal : Refusal) (s t : Bool) (next : ChunkStep) → (next ≡ Refused refusal → RefusedThere mode c refusal)
-    → cond s Over (cond t (refused_at c RanOut) next) ≡ Refused refusal → RefusedThere mode c refusal
+by_left : (mode : PayloadMode) (c : ℕ) (refusal : Refusal) (s t : Bool) (next : Result (Option Chunk) Refusal) → (next ≡ Err refusal → RefusedThere mode c refusal)
+    → cond s (Ok None) (cond t (refused_at c RanOut) next) ≡ Err refusal → RefusedThere mode c refusal
 by_left mode c refusal true t next rest e = over_not mode c refusal e
 by_left mode c refusal false true next rest e = ran_out mode c refusal e
 by_left mode c refusal false false next rest e = rest e
 
-pub refused_there : (container : List ℕ) (reading : Applied) (c : ℕ) (refusal : Refusal) → chunk_at container reading c ≡ Refused refusal → RefusedThere reading.payloads c refusal
+pub refused_there : (container : List ℕ) (reading : Applied) (c : ℕ) (refusal : Refusal) → chunk_at container reading c ≡ Err refusal → RefusedThere reading.payloads c refusal
 unfolding chunk_at opened_at taken_at held_at
 refused_there container reading c refusal e =
     let mode = reading.payloads in
@@ -192,14 +191,14 @@ refused_there container reading c refusal e =
 -- ---- where the chunks are over in one reading, they are in every other
 
 never_over : (taken low small short : Bool) (first second third : Refusal) (chunk other : Chunk)
-    → cond taken (cond low (Refused first) (cond small (Refused second) (cond short (Refused third) (Found chunk)))) (Found other) ≡ Over → ◌≡◌ {A = ℕ} 0 1
+    → cond taken (cond low (Err first) (cond small (Err second) (cond short (Err third) (Ok (Some chunk))))) (Ok (Some other)) ≡ Ok None → ◌≡◌ {A = ℕ} 0 1
 never_over true true small short first second third chunk other e = cc
 never_over true false true short first second third chunk other e = cc
 never_over true false false true first second third chunk other e = cc
 never_over true false false false first second third chunk other e = cc
 never_over false low small short first second third chunk other e = cc
 
-opened_is_not_over : (container : List ℕ) (reading : Applied) (c : ℕ) (opening : Opening) → opened_at (length container) reading c opening ≡ Over → ◌≡◌ {A = ℕ} 0 1
+opened_is_not_over : (container : List ℕ) (reading : Applied) (c : ℕ) (opening : Opening) → opened_at (length container) reading c opening ≡ Ok None → ◌≡◌ {A = ℕ} 0 1
 unfolding opened_at taken_at held_at
 opened_is_not_over container reading c opening e =
     let spare = opening.header + opening.footer in
@@ -209,12 +208,12 @@ opened_is_not_over container reading c opening e =
     never_over (is_taken reading opening.kind opening.channel) (is_short mode opening) (ltb opening.block spare) (ltb (length container) (c + offset + n))
     (record { cause = ShortHeader; place = c }) (record { cause = TooSmall; place = c }) (record { cause = RanOut; place = c }) (chunk_of c opening offset n) (chunk_of c opening 0x20 0) e
 
-pub over_in_every : (container : List ℕ) (reading other : Applied) (c : ℕ) → chunk_at container reading c ≡ Over → chunk_at container other c ≡ Over
+pub over_in_every : (container : List ℕ) (reading other : Applied) (c : ℕ) → chunk_at container reading c ≡ Ok None → chunk_at container other c ≡ Ok None
 unfolding chunk_at
 over_in_every container reading other c e = by_left (ltb (length container - c) 4) (ltb (length container - c) 45) refl e
   where
-    by_left : (s t : Bool) → ltb (length container - c) 4 ≡ s → cond s Over (cond t (refused_at c RanOut) (opened_at (length container) reading c (opening_at container c))) ≡ Over
-        → chunk_at container other c ≡ Over
+    by_left : (s t : Bool) → ltb (length container - c) 4 ≡ s → cond s (Ok None) (cond t (refused_at c RanOut) (opened_at (length container) reading c (opening_at container c))) ≡ Ok None
+        → chunk_at container other c ≡ Ok None
     by_left true t q e = rw q
     by_left false true q e = let z : ◌≡◌ {A = ℕ} 0 1 = cc in absurd (omega arith)
     by_left false false q e = absurd (omega (arith, opened_is_not_over container reading c (opening_at container c) e))

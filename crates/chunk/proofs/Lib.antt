@@ -5,3 +5,4 @@ pub mod OneAnswer
 pub mod OpeningLaws
 pub mod WindowLaws
 pub mod Promises
+pub mod EndLaws

@@ -1,12 +1,13 @@
 -- No second answer meets a contract of this crate: what a caller learns makes two results equal, and of two parts their place and their bytes. Assumes nothing.
+use Rattle.std.specs.Prelude.{Option, Some, None, Result, Ok, Err}
+use Rattle.chunk.specs.declared.Chunk.{Chunk}
+use Rattle.refusal.specs.declared.Refusal.{Refusal}
 use Prim.Native.Nat.{ℕ}
 use mathlib.Core.Path.{◌≡◌}
 use mathlib.Core.List.{List}
 use denote.Ref.{Bor}
 use Rattle.laws.proofs.OneAnswer.{no_second_answer}
 use Rattle.part.proofs.OneAnswer.{SamePart, one_part}
-use Rattle.chunk.specs.declared.ChunkStep.{ChunkStep}
-use Rattle.chunk.specs.declared.ChunkStep.TheVariants.{Over, Found, Refused}
 use Rattle.chunk.specs.Chunks.{chunk_at, PayloadIn}
 use Rattle.chunk.proofs.kind_number.Reads as kind-number
 use Rattle.chunk.proofs.is_end.Reads as is_end
@@ -28,10 +29,10 @@ pub step_in_once : (κs : _) (args : _) (r r' : _) (exit exit' : _) → step_in.
 step_in_once κs args r r' exit exit' = no_second_answer
 
 -- a step has one payload
-one_payload : (container : Bor (List ℕ)) (step : ChunkStep) (r r' : Bor (List ℕ)) → PayloadIn container step r → PayloadIn container step r' → SamePart r r'
-one_payload container Over r r' = one_part container _ _ r r'
-one_payload container (Found chunk) r r' = one_part container _ _ r r'
-one_payload container (Refused refusal) r r' = one_part container _ _ r r'
+one_payload : (container : Bor (List ℕ)) (step : Result (Option Chunk) Refusal) (r r' : Bor (List ℕ)) → PayloadIn container step r → PayloadIn container step r' → SamePart r r'
+one_payload container (Ok None) r r' = one_part container _ _ r r'
+one_payload container (Ok (Some chunk)) r r' = one_part container _ _ r r'
+one_payload container (Err refusal) r r' = one_part container _ _ r r'
 
 pub payload_of_once : (κs : _) (args : _) (r r' : _) (exit exit' : _) → payload-of.Learnt κs args r exit → payload-of.Learnt κs args r' exit' → SamePart r r'
 payload_of_once κs args r r' exit exit' = one_part args.0 _ _ r r'

@@ -1,5 +1,6 @@
 -- Rules C: what stands at a place c of a container, and the payload.
-use Rattle.std.specs.Prelude.{ℕ, ◌+◌, ◌-◌, List, [], Bool, true, false, cond, length, ltb}
+use Rattle.std.specs.Prelude.{ℕ, ◌+◌, ◌-◌, List, [], Bool, true, false, cond, length, ltb, Option, Some, None, Result, Ok, Err}
+use Rattle.refusal.specs.declared.Refusal.{Refusal}
 use Rattle.std.specs.Borrow.{Bor}
 use Rattle.refusal.specs.declared.Cause.{Cause}
 use Rattle.refusal.specs.declared.Cause.TheVariants.{RanOut, TooSmall, ShortHeader}
@@ -12,8 +13,6 @@ use Rattle.chunk.specs.declared.Kind.{Kind}
 use Rattle.chunk.specs.declared.Kind.TheVariants.{Video, Audio, Other, End}
 use Rattle.chunk.specs.declared.Opening.{Opening}
 use Rattle.chunk.specs.declared.Chunk.{Chunk}
-use Rattle.chunk.specs.declared.ChunkStep.{ChunkStep}
-use Rattle.chunk.specs.declared.ChunkStep.TheVariants.{Over, Found, Refused}
 use Rattle.chunk.specs.Openings.{opening_at}
 
 -- "kind (`video`, `audio`, `other`, `end`)", numbered in that order
@@ -45,38 +44,38 @@ unfoldable pub chunk_of : ℕ → Opening → ℕ → ℕ → Chunk
 chunk_of c opening offset n = record { start = c; kind = opening.kind; channel = opening.channel; data_type = opening.data_type; next = c + 8 + opening.block; payload = c + offset; len = n }
 
 -- "the start of the block being read"
-abbrev pub refused_at : ℕ → Cause → ChunkStep
-refused_at c why = Refused (record { cause = why; place = c })
+abbrev pub refused_at : ℕ → Cause → Result (Option Chunk) Refusal
+refused_at c why = Err (record { cause = why; place = c })
 
 -- Of a container the rules ask no more than its opening at c, and its length: total
 
 -- "its length is block size - header - footer (9), present in full (1)."
-unfoldable pub held_at : ℕ → ℕ → Opening → ℕ → ChunkStep
+unfoldable pub held_at : ℕ → ℕ → Opening → ℕ → Result (Option Chunk) Refusal
 held_at total c opening offset =
     cond (ltb opening.block (opening.header + opening.footer)) (refused_at c TooSmall)
     (cond (ltb total (c + offset + (opening.block - (opening.header + opening.footer)))) (refused_at c RanOut)
-    (Found (chunk_of c opening offset (opening.block - (opening.header + opening.footer)))))
+    (Ok (Some (chunk_of c opening offset (opening.block - (opening.header + opening.footer))))))
 
 -- "17 header size below 0x18 in the new mode for a payload that is not skipped, placed before 9"
-unfoldable pub taken_at : ℕ → PayloadMode → ℕ → Opening → ChunkStep
+unfoldable pub taken_at : ℕ → PayloadMode → ℕ → Opening → Result (Option Chunk) Refusal
 taken_at total mode c opening = cond (is_short mode opening) (refused_at c ShortHeader) (held_at total c opening (offset_of mode opening))
 
 -- "others are skipped with no size check"; "payload length (0 if skipped)". A skipped payload is said to start at c + 0x20 in both modes: nothing asks its header size
-unfoldable pub opened_at : ℕ → Applied → ℕ → Opening → ChunkStep
-opened_at total reading c opening = cond (is_taken reading opening.kind opening.channel) (taken_at total reading.payloads c opening) (Found (chunk_of c opening 0x20 0))
+unfoldable pub opened_at : ℕ → Applied → ℕ → Opening → Result (Option Chunk) Refusal
+opened_at total reading c opening = cond (is_taken reading opening.kind opening.channel) (taken_at total reading.payloads c opening) (Ok (Some (chunk_of c opening 0x20 0)))
 
 -- where fewer bytes than an opening are left
-abbrev pub ended_at : ℕ → ℕ → ChunkStep
-ended_at left c = cond (ltb left 4) Over (refused_at c RanOut)
+abbrev pub ended_at : ℕ → ℕ → Result (Option Chunk) Refusal
+ended_at left c = cond (ltb left 4) (Ok None) (refused_at c RanOut)
 
 -- "At c, fewer than 4 bytes left: clean end. .. 4 to 44 left: 1."
-abbrev pub step_of : ℕ → Applied → ℕ → Opening → ChunkStep
+abbrev pub step_of : ℕ → Applied → ℕ → Opening → Result (Option Chunk) Refusal
 step_of total reading c opening =
-    cond (ltb (total - c) 4) Over
+    cond (ltb (total - c) 4) (Ok None)
     (cond (ltb (total - c) 45) (refused_at c RanOut)
     (opened_at total reading c opening))
 
-unfoldable pub chunk_at : List ℕ → Applied → ℕ → ChunkStep
+unfoldable pub chunk_at : List ℕ → Applied → ℕ → Result (Option Chunk) Refusal
 chunk_at container reading c = step_of (length container) reading c (opening_at container c)
 
 -- a payload's bytes
@@ -88,10 +87,10 @@ abbrev pub PayloadOf : Bor (List ℕ) → Chunk → Bor (List ℕ) → Type 0
 PayloadOf container chunk r = PartAt container chunk.payload chunk.len r
 
 -- refused, or past the last chunk, there is none: r is the empty part at byte 0
-abbrev pub PayloadIn : Bor (List ℕ) → ChunkStep → Bor (List ℕ) → Type 0
-PayloadIn container Over r = IsPart container 0 [] r
-PayloadIn container (Found chunk) r = PayloadOf container chunk r
-PayloadIn container (Refused refusal) r = IsPart container 0 [] r
+abbrev pub PayloadIn : Bor (List ℕ) → Result (Option Chunk) Refusal → Bor (List ℕ) → Type 0
+PayloadIn container (Ok None) r = IsPart container 0 [] r
+PayloadIn container (Ok (Some chunk)) r = PayloadOf container chunk r
+PayloadIn container (Err refusal) r = IsPart container 0 [] r
 
 abbrev pub PayloadAt : Bor (List ℕ) → Applied → ℕ → Bor (List ℕ) → Type 0
 PayloadAt container reading c r = PayloadIn container (chunk_at container.now reading c) r

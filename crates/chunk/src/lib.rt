@@ -44,21 +44,6 @@ pub struct Chunk {
     pub len: usize,
 }
 
-// What stands at a place: the end of all chunks, a chunk, or why there is none.
-#[derive(Clone, Copy)]
-pub enum ChunkStep {
-    Over,
-    Found(Chunk),
-    Refused(Refusal),
-}
-
-// What a window says of a place: the step there, or that it is too short to say.
-#[derive(Clone, Copy)]
-pub enum Stepped {
-    More,
-    Step(ChunkStep),
-}
-
 // The bytes that every chunk has: as many as an end chunk needs.
 pub const OPENING: usize = 45;
 
@@ -68,7 +53,7 @@ const UNCOUNTED: usize = 8;
 // The least header size of a payload that stands after its header.
 const LEAST_HEADER: u16 = 0x18;
 
-// The number of a kind.
+// The number of a kind, as C reads it.
 pub fn kind_number(kind: Kind) -> u8
     ensures { result ≡ kind_number kind }
 {
@@ -188,43 +173,51 @@ fn chunk_of(place: usize, opening: Opening, offset: usize, len: usize) -> Chunk
     }
 }
 
-// A refusal of the chunk at a place.
-fn refused(cause: Cause, place: usize) -> ChunkStep
-    ensures { result ≡ refused_at place cause }
-{
-    ChunkStep::Refused(Refusal { cause, place })
-}
-
 // The chunk at a place of a container of `total` bytes, whose payload stands so many bytes on: it has to be there in full.
-fn held_at(total: usize, place: usize, opening: Opening, offset: usize) -> ChunkStep
+fn held_at(
+    total: usize,
+    place: usize,
+    opening: Opening,
+    offset: usize,
+) -> Result<Option<Chunk>, Refusal>
     requires { (place < 2 ^ 63) × (offset < 2 ^ 32) }
     ensures { result ≡ held_at total place opening offset }
 {
     let block = opening.block as usize;
     let spare = opening.header as usize + opening.footer as usize;
     if block < spare {
-        return refused(Cause::TooSmall, place);
+        return refusal::refused(Cause::TooSmall, place);
     }
     let len = block - spare;
     if total < place + offset + len {
-        return refused(Cause::RanOut, place);
+        return refusal::refused(Cause::RanOut, place);
     }
-    ChunkStep::Found(chunk_of(place, opening, offset, len))
+    Ok(Some(chunk_of(place, opening, offset, len)))
 }
 
 // The chunk at a place, whose payload is taken.
-fn taken_at(total: usize, place: usize, mode: PayloadMode, opening: Opening) -> ChunkStep
+fn taken_at(
+    total: usize,
+    place: usize,
+    mode: PayloadMode,
+    opening: Opening,
+) -> Result<Option<Chunk>, Refusal>
     requires { place < 2 ^ 63 }
     ensures { result ≡ taken_at total mode place opening }
 {
     if is_short(mode, opening) {
-        return refused(Cause::ShortHeader, place);
+        return refusal::refused(Cause::ShortHeader, place);
     }
     held_at(total, place, opening, offset_of(mode, opening))
 }
 
 // The chunk at a place, by its opening: a payload that is not taken is not looked at.
-fn opened_at(total: usize, place: usize, reading: Applied, opening: Opening) -> ChunkStep
+fn opened_at(
+    total: usize,
+    place: usize,
+    reading: Applied,
+    opening: Opening,
+) -> Result<Option<Chunk>, Refusal>
     requires { place < 2 ^ 63 }
     ensures { result ≡ opened_at total reading place opening }
 {
@@ -233,17 +226,17 @@ fn opened_at(total: usize, place: usize, reading: Applied, opening: Opening) -> 
         let mode = reading.payloads;
         return taken_at(total, place, mode, opening);
     }
-    ChunkStep::Found(chunk_of(place, opening, signature::INSIDE, 0))
+    Ok(Some(chunk_of(place, opening, signature::INSIDE, 0)))
 }
 
 // That the chunks end at a place, or are cut there: so few bytes are left that no opening is.
-fn ended_at(left: usize, place: usize) -> ChunkStep
+fn ended_at(left: usize, place: usize) -> Result<Option<Chunk>, Refusal>
     ensures { result ≡ ended_at left place }
 {
     if left < signature::LETTERS {
-        return ChunkStep::Over;
+        return Ok(None);
     }
-    refused(Cause::RanOut, place)
+    refusal::refused(Cause::RanOut, place)
 }
 
 // How many of so many bytes stand from a place on.
@@ -259,7 +252,7 @@ fn left_of(total: u32, place: usize) -> usize
 
 // The chunk at a place, or that the chunks end there, or why it is refused. `reading` is how this film is read: where the
 // film has no audio, `reading::applied_to` has said so.
-pub fn chunk_at(container: &[u8], place: usize, reading: Applied) -> ChunkStep
+pub fn chunk_at(container: &[u8], place: usize, reading: Applied) -> Result<Option<Chunk>, Refusal>
     ensures { result ≡ chunk_at container.now reading place }
 {
     let left = word::left_from(container, place);
@@ -276,17 +269,22 @@ pub fn chunk_at(container: &[u8], place: usize, reading: Applied) -> ChunkStep
 
 // The chunk at a place of a container of `total` bytes, by a window: the bytes that stand there, or the first of them. 45 are
 // enough. So a container is read piece by piece.
-pub fn step_in(window: &[u8], place: usize, total: u32, reading: Applied) -> Stepped
+pub fn step_in(
+    window: &[u8],
+    place: usize,
+    total: u32,
+    reading: Applied,
+) -> Option<Result<Option<Chunk>, Refusal>>
     ensures { result ≡ step_in window.now total reading place }
 {
     let left = left_of(total, place);
     if left < OPENING {
-        return Stepped::Step(ended_at(left, place));
+        return Some(ended_at(left, place));
     }
     if window.len() < OPENING {
-        return Stepped::More;
+        return None;
     }
-    Stepped::Step(opened_at(total as usize, place, reading, opening_at(window, 0)))
+    Some(opened_at(total as usize, place, reading, opening_at(window, 0)))
 }
 
 // The payload of a chunk, a part of the container; its empty part at byte 0 where the container does not hold that much.
@@ -301,8 +299,8 @@ pub fn read_payload(container: &[u8], place: usize, reading: Applied) -> &[u8]
     ensures { PayloadAt container.entry reading place result }
 {
     match chunk_at(container, place, reading) {
-        ChunkStep::Over => &container[0..0],
-        ChunkStep::Found(chunk) => payload_of(container, chunk),
-        ChunkStep::Refused(_) => &container[0..0],
+        Ok(None) => &container[0..0],
+        Ok(Some(chunk)) => payload_of(container, chunk),
+        Err(_) => &container[0..0],
     }
 }

@@ -1,5 +1,6 @@
 -- How long the lines are: a line is the sum of its pieces, and a container of at most 16,384 bytes has few enough of them.
 -- Chunks stand at least 8 bytes apart and a line has at most 24 bytes, so there are at most 3 bytes of text for one of the container. Assumes nothing.
+use Rattle.std.specs.Prelude.{Some, Ok}
 use mathlib.Core.Path.{◌≡◌, sym, ap, ◌∙◌}
 use mathlib.Core.List.{List, [], ◌∷◌}
 use Prim.Native.Nat.{ℕ, suc, ◌+◌, ◌-◌, ◌*◌, ◌^◌, ◌≤◌, ◌<◌}
@@ -13,7 +14,6 @@ use Rattle.reading.specs.declared.Applied.{Applied}
 use Rattle.chunk.specs.declared.Kind.{Kind}
 use Rattle.chunk.specs.declared.Kind.TheVariants.{Video, Audio, Other, End}
 use Rattle.chunk.specs.declared.Chunk.{Chunk}
-use Rattle.chunk.specs.declared.ChunkStep.TheVariants.{Found}
 use Rattle.chunk.specs.Openings.{Bytes}
 use Rattle.chunk.specs.Chunks.{chunk_at}
 use Rattle.chunk.proofs.FoundLaws.{found}
@@ -66,7 +66,7 @@ module _ (container : List ℕ) (reading : Applied) (bytes : Bytes container) (l
   unfolding joined
   none_short c = omega arith
 
-  one_more_short : (c : ℕ) (chunk : Chunk) (chunks : List Chunk) → chunk_at container reading c ≡ Found chunk → Short chunk.next chunks → Short c (chunk ∷ chunks)
+  one_more_short : (c : ℕ) (chunk : Chunk) (chunks : List Chunk) → chunk_at container reading c ≡ Ok (Some chunk) → Short chunk.next chunks → Short c (chunk ∷ chunks)
   unfolding joined
   one_more_short c chunk chunks e more =
       let w = found container reading c chunk e in

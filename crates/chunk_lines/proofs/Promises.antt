@@ -1,4 +1,6 @@
 -- The promises of specs/Promises.antt, each under its name: the lines of a container of at most 16,384 bytes are short, and so is a refusal. Assumes nothing.
+use Rattle.std.specs.Prelude.{Result, Ok, Err}
+use Rattle.refusal.specs.declared.Refusal.{Refusal}
 use mathlib.Core.Path.{◌≡◌, refl}
 use mathlib.Core.List.{List}
 use mathlib.Core.Bool.{Bool, true, false, cond}
@@ -16,8 +18,6 @@ use Rattle.chunk.specs.declared.Chunk.{Chunk}
 use Rattle.chunk.specs.Openings.{Bytes}
 use Rattle.walk.specs.Walks.{Ending, clean, stopped, walk_from}
 use Rattle.header.specs.declared.Header.{Header}
-use Rattle.header.specs.declared.HeaderAnswer.{HeaderAnswer}
-use Rattle.header.specs.declared.HeaderAnswer.TheVariants as answer
 use Rattle.header.specs.Headers.{header_of}
 use Rattle.film.specs.Films.{ended_as, film_from, after_header, film_of}
 use Rattle.chunk_lines.specs.Lines.{lines_of, refusal_line, film_text, text_of}
@@ -36,9 +36,9 @@ module _ (container : List ℕ) (reading : Reading) (bytes : Bytes container) (l
       let walked = walk_from container applied header.start in
       ended header applied walked.chunks walked.ending (omega (arith, lines_short container applied bytes limit header.start))
 
-  after : (a : HeaderAnswer) → length (film_text (after_header (film_from container reading) a)) ≤ 65536
-  after (answer.Read header) = from_header header
-  after (answer.Refused refusal) = omega (arith, refusal_short refusal)
+  after : (a : Result Header Refusal) → length (film_text (after_header (film_from container reading) a)) ≤ 65536
+  after (Ok header) = from_header header
+  after (Err refusal) = omega (arith, refusal_short refusal)
 
   of_film : length (film_text (film_of container reading)) ≤ 65536
   unfolding film_of

@@ -1,4 +1,5 @@
 -- What is printed, by what is known of a container: it is too long, or its film is surveyed. Assumes nothing.
+use Rattle.std.specs.Prelude.{Ok, Err}
 use mathlib.Core.Path.{◌≡◌, sym, ap, ◌∙◌}
 use mathlib.Core.List.{List}
 use Prim.Native.Nat.{ℕ, ◌≤◌, ◌<◌}
@@ -12,7 +13,6 @@ use Rattle.reading.specs.declared.Reading.{Reading}
 use Rattle.reading.specs.declared.Applied.{Applied}
 use Rattle.walk.specs.Walks.{walk_from}
 use Rattle.header.specs.declared.Header.{Header}
-use Rattle.film.specs.declared.Surveyed.TheVariants as survey
 use Rattle.film.specs.Films.{film_of, survey_of}
 use Rattle.film.proofs.FilmLaws.{surveyed_film, surveyed_refusal}
 use Rattle.chunk_lines.specs.Lines.{lines_of, refusal_line, film_text, text_of}
@@ -30,8 +30,8 @@ module _ (container : List ℕ) where
   not_too_long h = rw (le-ltb 16384 (length container) h)
 
   pub accepted : length container ≤ 16384 → (header : Header) (applied : Applied) (count video audio : ℕ)
-      → survey_of (film_of container chosen) ≡ survey.Film header applied count video audio → lines_of (walk_from container applied header.start).chunks ≡ text_of container
+      → survey_of (film_of container chosen) ≡ Ok (record { header = header; reading = applied; count = count; video = video; audio = audio }) → lines_of (walk_from container applied header.start).chunks ≡ text_of container
   accepted h header applied count video audio e = sym (not_too_long h ∙ ap film_text (surveyed_film container chosen header applied count video audio e))
 
-  pub not_accepted : length container ≤ 16384 → (refusal : Refusal) → survey_of (film_of container chosen) ≡ survey.Refused refusal → refusal_line refusal ≡ text_of container
+  pub not_accepted : length container ≤ 16384 → (refusal : Refusal) → survey_of (film_of container chosen) ≡ Err refusal → refusal_line refusal ≡ text_of container
   not_accepted h refusal e = sym (not_too_long h ∙ ap film_text (surveyed_refusal container chosen refusal e))

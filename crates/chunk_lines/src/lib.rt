@@ -8,8 +8,7 @@ ghost use Rattle.laws.specs.Outputs.{Put};
 ghost use Rattle.walk.specs.Walks.{walk_from};
 ghost use Rattle.chunk_lines.specs.Lines.{number_then, kind_word, line_of, lines_of, refusal_line, text_of};
 
-use chunk::{Chunk, ChunkStep, Kind};
-use film::Surveyed;
+use chunk::{Chunk, Kind};
 use reading::{Applied, AudioChoice};
 use refusal::{Cause, Refusal};
 
@@ -51,9 +50,8 @@ fn put_line(out: &mut [u8], place: usize, chunk: Chunk) -> usize
     requires { place + length (line_of chunk) < 2 ^ 64 }
     ensures { Put (line_of chunk) out.old place out.new result }
 {
-    let kind = chunk.kind;
     let at = put_number(out, place, chunk.start as u64, b" ");
-    let at = put_kind(out, at, kind);
+    let at = put_kind(out, at, chunk.kind);
     let at = put_number(out, at, chunk.data_type as u64, b" ");
     let at = put_number(out, at, chunk.len as u64, b" ");
     put_number(out, at, chunk.channel as u64, b"\n")
@@ -67,26 +65,19 @@ fn put_chunks(out: &mut [u8], container: &[u8], place: usize, reading: Applied) 
 {
     let mut at = place;
     let mut end = 0;
-    loop {
-        match chunk::chunk_at(container, at, reading) {
-            ChunkStep::Over => return end,
-            ChunkStep::Found(chunk) => {
-                let next = put_line(out, end, chunk);
-                end = next;
-                at = chunk.next;
-            }
-            ChunkStep::Refused(_) => return end,
-        }
+    while let Ok(Some(chunk)) = chunk::chunk_at(container, at, reading) {
+        end = put_line(out, end, chunk);
+        at = chunk.next;
     }
+    end
 }
 
 // Puts the line of a refusal at the start of the output.
 fn put_refusal(out: &mut [u8], refusal: Refusal) -> usize
     ensures { Put (refusal_line refusal) out.old 0 out.new result }
 {
-    let cause = refusal.cause;
     let at = put_word(out, 0, b"refused ");
-    let at = put_number(out, at, refusal::number_of(cause) as u64, b" ");
+    let at = put_number(out, at, refusal::number_of(refusal.cause) as u64, b" ");
     let at = put_word(out, at, b"at ");
     put_number(out, at, refusal.place as u64, b"\n")
 }
@@ -96,22 +87,11 @@ pub fn lines(container: &[u8], out: &mut [u8]) -> usize
     ensures { (result ≡ length (text_of container.now)) × (out.new ≡ sets out.old 0 (text_of container.now)) }
 {
     if LONGEST < container.len() {
-        return put_refusal(
-            out,
-            Refusal {
-                cause: Cause::TooLong,
-                place: 0,
-            },
-        );
+        let cause = Cause::TooLong;
+        return put_refusal(out, Refusal { cause, place: 0 });
     }
     match film::survey(container, reading::as_original(AudioChoice::Chosen)) {
-        Surveyed::Film {
-            header,
-            reading: applied,
-            count: _,
-            video: _,
-            audio: _,
-        } => put_chunks(out, container, header.start, applied),
-        Surveyed::Refused(refusal) => put_refusal(out, refusal),
+        Ok(survey) => put_chunks(out, container, survey.header.start, survey.reading),
+        Err(refusal) => put_refusal(out, refusal),
     }
 }

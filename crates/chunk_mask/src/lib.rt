@@ -6,11 +6,10 @@ ghost use Rattle.std.specs.Prelude.{◌≡◌};
 ghost use Rattle.chunk_mask.specs.ChunkMasks.{mask_of};
 
 use chunk::Kind;
-use codec::Codec;
 use unmasking::Mask;
 
 // The mask that the payload of a chunk has, in a film whose audio codec this is.
-pub fn mask_of(codec: Codec, kind: Kind, data_type: u8) -> Mask
+pub fn mask_of(codec: Option<u32>, kind: Kind, data_type: u8) -> Mask
     ensures { result ≡ mask_of codec kind data_type }
 {
     match kind {

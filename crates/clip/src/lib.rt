@@ -13,13 +13,7 @@ use mask::{ROW, TAIL};
 fn lanes_shown(bytes: usize) -> usize
     ensures { result ≡ lanes_shown bytes }
 {
-    if bytes < TAIL {
-        return 0;
-    }
-    if bytes < TAIL + ROW {
-        return bytes - TAIL;
-    }
-    ROW
+    bytes.saturating_sub(TAIL).min(ROW)
 }
 
 // Some bits if a lane is among those that are shown, none otherwise.
@@ -27,10 +21,7 @@ fn bits_if(shown: usize, lane: usize, bits: u64) -> u64
     ensures value { result ≡ showing shown lane bits }
     ensures upper_bound { result ≤ bits }
 {
-    if lane < shown {
-        return bits;
-    }
-    0
+    if lane < shown { bits } else { 0 }
 }
 
 // The bits of a key that a clip of so many bytes shows: it tells two keys apart exactly when they differ in one of them.

@@ -3,29 +3,21 @@
 #![tactic(auto)]
 
 ghost use Rattle.std.specs.Prelude.{◌≡◌};
-ghost use Rattle.cell.specs.Cells.{bits_of};
 ghost use Rattle.codec.specs.Codecs.{codec_of};
 ghost use Rattle.codec.specs.Kinds.{video_kind, audio_kind};
 ghost use Rattle.codec.specs.Numbers.{codec_by, presence_of, value_of, video_number, audio_number};
 
 use cell::Cell;
 
-// A codec's number, or that there is none.
-#[derive(Clone, Copy)]
-pub enum Codec {
-    Value(u32),
-    Absent,
-}
-
 // What a video stream is.
-#[derive(Clone, Copy)]
+#[derive(Clone, Copy, Debug, PartialEq, Eq)]
 pub enum VideoKind {
     Ivf,
     M2v,
 }
 
 // What an audio stream is.
-#[derive(Clone, Copy)]
+#[derive(Clone, Copy, Debug, PartialEq, Eq)]
 pub enum AudioKind {
     Hca,
     Adx,
@@ -37,92 +29,59 @@ const IVF: u32 = 9;
 // The codec of an `hca` stream.
 const HCA: u32 = 4;
 
-// The 32 bits of a signed number.
-fn codec_bits(number: i32) -> u32
-    ensures { result ≡ bits_of number 0xFFFFFFFF }
-{
-    if number < 0 {
-        return !((!number) as u32);
-    }
-    number as u32
-}
-
 // The codec that a cell is.
-pub fn codec_of(cell: Cell) -> Codec
+pub fn codec_of(cell: Cell) -> Option<u32>
     ensures { result ≡ codec_of cell }
 {
     match cell {
-        Cell::Nothing => Codec::Absent,
-        Cell::Unsigned(number) => Codec::Value((number % 0x1_0000_0000) as u32),
-        Cell::Signed(number) => Codec::Value(codec_bits(number)),
-        Cell::Float(_) => Codec::Absent,
-        Cell::NotANumber(_) => Codec::Absent,
-        Cell::Text { start: _, len: _ } => Codec::Absent,
-        Cell::Data { start: _, len: _ } => Codec::Absent,
+        Cell::Unsigned(number) => Some((number % 0x1_0000_0000) as u32),
+        Cell::Signed(number) => Some(number.cast_unsigned()),
+        _ => None,
     }
 }
 
 // The codec by two numbers, as C gives it: with 0 for the first there is none.
-pub fn codec_by(given: u8, number: u32) -> Codec
+pub fn codec_by(given: u8, number: u32) -> Option<u32>
     ensures { result ≡ codec_by given number }
 {
-    if given == 0 {
-        return Codec::Absent;
-    }
-    Codec::Value(number)
+    (given != 0).then_some(number)
 }
 
 // The kind of a video stream.
-pub fn video_kind(codec: Codec) -> VideoKind
+pub fn video_kind(codec: Option<u32>) -> VideoKind
     ensures { result ≡ video_kind codec }
 {
     match codec {
-        Codec::Value(number) => {
-            if number == IVF {
-                return VideoKind::Ivf;
-            }
-            VideoKind::M2v
-        }
-        Codec::Absent => VideoKind::M2v,
+        Some(IVF) => VideoKind::Ivf,
+        _ => VideoKind::M2v,
     }
 }
 
 // The kind of an audio stream.
-pub fn audio_kind(codec: Codec) -> AudioKind
+pub fn audio_kind(codec: Option<u32>) -> AudioKind
     ensures { result ≡ audio_kind codec }
 {
     match codec {
-        Codec::Value(number) => {
-            if number == HCA {
-                return AudioKind::Hca;
-            }
-            AudioKind::Adx
-        }
-        Codec::Absent => AudioKind::Adx,
+        Some(HCA) => AudioKind::Hca,
+        _ => AudioKind::Adx,
     }
 }
 
-// Whether there is a codec, as a number.
-pub fn presence_of(codec: Codec) -> u8
+// Whether there is a codec, as a number, which C reads.
+pub fn presence_of(codec: Option<u32>) -> u8
     ensures { result ≡ presence_of codec }
 {
-    match codec {
-        Codec::Value(_) => 1,
-        Codec::Absent => 0,
-    }
+    u8::from(codec.is_some())
 }
 
 // A codec's number, 0 where there is none.
-pub fn value_of(codec: Codec) -> u32
+pub fn value_of(codec: Option<u32>) -> u32
     ensures { result ≡ value_of codec }
 {
-    match codec {
-        Codec::Value(number) => number,
-        Codec::Absent => 0,
-    }
+    codec.unwrap_or(0)
 }
 
-// The number of a video stream's kind.
+// The number of a video stream's kind, as C has it. No `From`: docs/CONTRACTS.md and a wrong answer have this name.
 pub fn video_number(kind: VideoKind) -> u8
     ensures { result ≡ video_number kind }
 {
@@ -132,7 +91,7 @@ pub fn video_number(kind: VideoKind) -> u8
     }
 }
 
-// The number of an audio stream's kind.
+// The number of an audio stream's kind, as C has it. No `From`: docs/CONTRACTS.md has this name.
 pub fn audio_number(kind: AudioKind) -> u8
     ensures { result ≡ audio_number kind }
 {

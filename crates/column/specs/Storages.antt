@@ -1,14 +1,13 @@
 -- Rules T: where a column has its values, by its type byte; and what it takes there.
 -- m is the table's mode, b its body, l its layout.
-use Rattle.std.specs.Prelude.{ℕ, ◌+◌, ◌/◌, ◌%◌, List, cond, ◌||◌, eqb}
+use Rattle.std.specs.Prelude.{ℕ, ◌+◌, ◌/◌, ◌%◌, List, cond, ◌||◌, eqb, Result, Ok, Err}
+use Rattle.refusal.specs.declared.Cause.{Cause}
 use Rattle.reading.specs.declared.TableMode.{TableMode}
 use Rattle.reading.specs.declared.TableMode.TheVariants.{Original, ZeroColumns}
 use Rattle.refusal.specs.declared.Cause.TheVariants.{UnknownStorage}
 use Rattle.layout.specs.declared.Layout.{Layout}
 use Rattle.cell.specs.declared.Cell.{Cell}
 use Rattle.cell.specs.declared.Cell.TheVariants.{Nothing}
-use Rattle.cell.specs.declared.CellAnswer.{CellAnswer}
-use Rattle.cell.specs.declared.CellAnswer.TheVariants.{Got, Refused}
 use Rattle.cell.specs.Types.{width_of}
 use Rattle.cell.specs.Cells.{cell_at, zero_cell}
 use Rattle.column.specs.declared.Storage.{Storage}
@@ -45,15 +44,15 @@ abbrev pub in_row : TableMode → ℕ → ℕ
 in_row m tag = row_of (storage_of m tag) (width_of (tag % 16))
 
 -- the constant of type k that stands at body byte p of a record. "18 unknown storage kind in the new mode, checked after the column's name and before its value"
-abbrev pub constant_at : List ℕ → Storage → ℕ → ℕ → Layout → CellAnswer
+abbrev pub constant_at : List ℕ → Storage → ℕ → ℕ → Layout → Result Cell Cause
 constant_at b Constant k p l = cell_at b k p l
-constant_at b Stored k p l = Got Nothing
-constant_at b Zero k p l = Got Nothing
-constant_at b Unknown k p l = Refused UnknownStorage
+constant_at b Stored k p l = Ok Nothing
+constant_at b Zero k p l = Ok Nothing
+constant_at b Unknown k p l = Err UnknownStorage
 
 -- the cell in a row of a column with this constant: type k, at body byte p where it is stored. "an unknown type in a zero column is 8 once per-row values are read"
-abbrev pub cell_in : List ℕ → Storage → Cell → ℕ → ℕ → Layout → CellAnswer
-cell_in b Constant constant k p l = Got constant
+abbrev pub cell_in : List ℕ → Storage → Cell → ℕ → ℕ → Layout → Result Cell Cause
+cell_in b Constant constant k p l = Ok constant
 cell_in b Stored constant k p l = cell_at b k p l
 cell_in b Zero constant k p l = zero_cell k
-cell_in b Unknown constant k p l = Refused UnknownStorage
+cell_in b Unknown constant k p l = Err UnknownStorage

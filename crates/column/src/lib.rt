@@ -6,13 +6,13 @@ ghost use Rattle.std.specs.Prelude.{◌≡◌, ◌+◌, ◌%◌, ◌≤◌, ◌<
 ghost use Rattle.column.specs.Storages.{other_storage, storage_of, in_record, in_row, constant_at};
 ghost use Rattle.column.specs.Columns.{column_from, column_at};
 
-use cell::{Cell, CellAnswer, Ending};
+use cell::Cell;
 use layout::Layout;
 use reading::TableMode;
 use refusal::Cause;
 
 // Where a column has its values.
-#[derive(Clone, Copy)]
+#[derive(Clone, Copy, Debug, PartialEq, Eq)]
 pub enum Storage {
     // One value for every row, in the column's record.
     Constant,
@@ -33,13 +33,6 @@ pub struct Column {
     pub kind: u8,
     pub constant: Cell,
     pub next: usize,
-}
-
-// A column, or why there is none.
-#[derive(Clone, Copy)]
-pub enum ColumnAnswer {
-    Found(Column),
-    NoColumn(Cause),
 }
 
 // The bytes of a record's type and name offset; a constant follows them.
@@ -77,11 +70,9 @@ fn other_storage(nibble: usize, mode: TableMode) -> Storage
 pub fn storage_of(tag: usize, mode: TableMode) -> Storage
     ensures { result ≡ storage_of mode tag }
 {
-    let nibble = tag / 16;
-    match nibble {
-        3 => Storage::Constant,
-        7 => Storage::Constant,
-        _ => other_storage(nibble, mode),
+    match tag / 16 {
+        3 | 7 => Storage::Constant,
+        nibble => other_storage(nibble, mode),
     }
 }
 
@@ -91,9 +82,7 @@ pub fn in_record(tag: usize, mode: TableMode) -> usize
 {
     match storage_of(tag, mode) {
         Storage::Constant => RECORD + cell::width_of(kind_of(tag)),
-        Storage::Stored => RECORD,
-        Storage::Zero => RECORD,
-        Storage::Unknown => RECORD,
+        Storage::Stored | Storage::Zero | Storage::Unknown => RECORD,
     }
 }
 
@@ -102,56 +91,54 @@ pub fn in_row(tag: usize, mode: TableMode) -> usize
     ensures { (result ≡ in_row mode tag) × (result < 256) }
 {
     match storage_of(tag, mode) {
-        Storage::Constant => 0,
         Storage::Stored => cell::width_of(kind_of(tag)),
-        Storage::Zero => 0,
-        Storage::Unknown => 0,
+        Storage::Constant | Storage::Zero | Storage::Unknown => 0,
     }
 }
 
 // The constant that follows at a body byte, or nothing where a column has none. An unknown storage is refused here, after the name.
-fn constant_at(body: &[u8], storage: Storage, kind: u8, at: usize, layout: Layout) -> CellAnswer
+fn constant_at(
+    body: &[u8],
+    storage: Storage,
+    kind: u8,
+    at: usize,
+    layout: Layout,
+) -> Result<Cell, Cause>
     ensures { result ≡ constant_at body.now storage kind at layout }
 {
     match storage {
         Storage::Constant => cell::read_cell(body, kind, at, layout),
-        Storage::Stored => CellAnswer::Got(Cell::Nothing),
-        Storage::Zero => CellAnswer::Got(Cell::Nothing),
-        Storage::Unknown => CellAnswer::Refused(Cause::UnknownStorage),
+        Storage::Stored | Storage::Zero => Ok(Cell::Nothing),
+        Storage::Unknown => Err(Cause::UnknownStorage),
     }
 }
 
 // The column of a name, whose record stands at a body byte.
-fn named_column(body: &[u8], at: usize, name: usize, layout: Layout) -> ColumnAnswer
+fn named_column(body: &[u8], at: usize, name: usize, layout: Layout) -> Result<Column, Cause>
     requires { at + 5 ≤ length body.now }
     ensures { result ≡ column_from body.now at name layout }
 {
     let tag = word::read8(body, at);
-    let mode = layout.mode;
-    let storage = storage_of(tag, mode);
+    let storage = storage_of(tag, layout.mode);
     let kind = kind_of(tag);
-    match constant_at(body, storage, kind, at + RECORD, layout) {
-        CellAnswer::Got(constant) => ColumnAnswer::Found(Column {
-            name,
-            storage,
-            kind,
-            constant,
-            next: at + in_record(tag, mode),
-        }),
-        CellAnswer::Refused(cause) => ColumnAnswer::NoColumn(cause),
-    }
+    let constant = constant_at(body, storage, kind, at + RECORD, layout)?;
+    Ok(Column {
+        name,
+        storage,
+        kind,
+        constant,
+        next: at + in_record(tag, layout.mode),
+    })
 }
 
 // The column whose record stands at a body byte.
-pub fn read_column(body: &[u8], at: usize, layout: Layout) -> ColumnAnswer
+pub fn read_column(body: &[u8], at: usize, layout: Layout) -> Result<Column, Cause>
     ensures { result ≡ column_at body.now at layout }
 {
     if word::left_from(body, at) < RECORD {
-        return ColumnAnswer::NoColumn(Cause::RanOut);
+        return Err(Cause::RanOut);
     }
     let name = (layout.strings as usize) + word::read32(body, at + 1);
-    match cell::end_of(body, name) {
-        Ending::At(_) => named_column(body, at, name, layout),
-        Ending::Endless => ColumnAnswer::NoColumn(Cause::RanOut),
-    }
+    cell::end_of(body, name).ok_or(Cause::RanOut)?;
+    named_column(body, at, name, layout)
 }

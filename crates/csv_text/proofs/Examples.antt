@@ -1,7 +1,5 @@
 -- The definitions compute: worked examples of what is written, and of what is read, also where the RFC has no rule. Assumes nothing.
-use mathlib.Core.Path.{◌≡◌, refl}
-use mathlib.Core.List.{[], ◌∷◌}
-use Prim.Native.Nat.{ℕ}
+use Rattle.std.proofs.Common.{◌≡◌, refl, [], ◌∷◌, ℕ}
 use Rattle.csv_text.specs.Written.{quote, comma, cr, lf, is_quoted, doubled, field_of, record_of, csv_of}
 use Rattle.csv_text.specs.Reading.{step_of, read_from, records_in}
 

@@ -1,11 +1,5 @@
 -- A field of plain text is written as it is; and a field takes at most two bytes for each of its own, and two quotes. Assumes nothing.
-use mathlib.Core.Path.{◌≡◌, refl}
-use mathlib.Core.List.{List, [], ◌∷◌, ◌++◌}
-use mathlib.Core.Bool.{Bool, true, false, cond}
-use Prim.Native.Nat.{ℕ, ◌+◌, ◌*◌, ◌≤◌}
-use native.Mathlib.Omega.{arith}
-use lib.ListN.{length, length-append}
-use lib.Dec.{eqb}
+use Rattle.std.proofs.Common.{◌≡◌, refl, List, [], ◌∷◌, ◌++◌, Bool, true, false, cond, ℕ, ◌+◌, ◌*◌, ◌≤◌, arith, length, length-append, eqb}
 use Rattle.csv_text.specs.Written.{quote, is_mark, is_quoted, escaped, doubled, field_of}
 
 pub plain_field : (w : List ℕ) → is_quoted w ≡ false → field_of w ≡ w

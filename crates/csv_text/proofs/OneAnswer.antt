@@ -1,5 +1,5 @@
 -- No second answer meets a contract of this crate. Assumes nothing.
-use mathlib.Core.Path.{◌≡◌}
+use Rattle.std.proofs.Common.{◌≡◌}
 use Rattle.laws.proofs.OneAnswer.{no_second_answer}
 use Rattle.csv_text.proofs.is_quoted.Reads as is-quoted
 

@@ -1,12 +1,5 @@
 -- What was written is read byte by byte: text in quotes, text without, a field and what stands after it, a record, and all records. Assumes nothing.
-use mathlib.Core.Path.{◌≡◌, refl, ap, ◌∙◌}
-use mathlib.Core.List.{List, [], ◌∷◌, ◌++◌, append_assoc, append-nil}
-use mathlib.Core.Bool.{Bool, true, false, cond, ◌||◌}
-use Prim.Native.Nat.{ℕ}
-use native.Mathlib.Omega.{arith}
-use lib.ListN.{length}
-use lib.Dec.{eqb}
-use borrow.Author.Tests.{eqb-true}
+use Rattle.std.proofs.Common.{◌≡◌, refl, ap, ◌∙◌, List, [], ◌∷◌, ◌++◌, append_assoc, append-nil, Bool, true, false, cond, ◌||◌, ℕ, arith, length, eqb, eqb-true}
 use Rattle.csv_text.specs.Written.{quote, comma, cr, lf, is_mark, is_quoted, escaped, doubled, field_of, mark_after, record_of, csv_of}
 use Rattle.csv_text.specs.Reading.{Stand, at_record, at_field, in_field, in_quotes, step_of, read_from, records_in}
 use Rattle.csv_text.specs.Promises.{SomeInEach}

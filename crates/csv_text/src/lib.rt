@@ -9,25 +9,12 @@ ghost use Rattle.csv_text.specs.Written.{is_mark, is_quoted};
 fn is_mark(byte: u8) -> bool
     ensures { result ≡ is_mark byte }
 {
-    match byte {
-        b'"' => true,
-        b',' => true,
-        b'\r' => true,
-        b'\n' => true,
-        _ => false,
-    }
+    matches!(byte, b'"' | b',' | b'\r' | b'\n')
 }
 
 // Whether a field is written in quotes.
 pub fn is_quoted(field: &[u8]) -> bool
     ensures { result ≡ is_quoted field.now }
 {
-    let mut i = 0;
-    while i < field.len() {
-        if is_mark(field[i]) {
-            return true;
-        }
-        i += 1;
-    }
-    false
+    field.iter().any(|byte| is_mark(*byte))
 }

@@ -1,5 +1,7 @@
 -- The promises of specs/Promises.antt, each under its name. The answer comes from the survey and both lengths alone; a stream takes the key only through
 -- its tables, one payload at a time. Assumes nothing.
+use Rattle.std.specs.Prelude.{Option, Some, Result, Ok, Err}
+use Rattle.refusal.specs.declared.Refusal.{Refusal}
 use Prim.Native.Nat.{ℕ, ◌%◌, ◌<◌}
 use mathlib.Core.Path.{◌≡◌, refl, sym, ap, ap₂, ◌∙◌}
 use mathlib.Core.List.{List, map}
@@ -13,7 +15,6 @@ use borrow.Author.Tests.{leb-true, leb-false, le-ltb}
 use Rattle.laws.specs.Lists.{at}
 use Rattle.laws.proofs.OneAnswer.{no_second_answer}
 use Rattle.reading.specs.declared.AudioChoice.TheVariants.{NotChosen, Chosen}
-use Rattle.codec.specs.declared.Codec.{Codec}
 use Rattle.key.specs.KeyTable.{keys_of}
 use Rattle.key.specs.CountingBits.{AgreeWhereItCounts}
 use Rattle.key.proofs.KeyBits.{same_keys}
@@ -26,16 +27,13 @@ use Rattle.refusal.specs.declared.Cause.TheVariants.{ShortOutput}
 use Rattle.chunk.specs.Chunks.{payload_of}
 use Rattle.chunk.specs.Channels.{silenced}
 use Rattle.extract.specs.declared.Contents.{Contents}
-use Rattle.extract.specs.declared.Extracted.{Extracted}
 use Rattle.walk.specs.Walks.{walk_from, video_size, audio_size}
-use Rattle.unmasking.specs.declared.Key.TheVariants.{Given}
 use Rattle.unmasking.specs.declared.Unmasking.{Unmasking}
 use Rattle.unmasking.specs.Unmasking.{is_adx, unmasking_of}
 use Rattle.film.specs.Films.{Film, film, refused, film_of, survey_of}
 use Rattle.film.specs.Promises.{with_audio}
 use Rattle.film.proofs.FilmLaws.{surveyed_film}
 use Rattle.film.proofs.Promises.{OneChannelOfAFilm, NoAudioOfAFilm}
-use Rattle.extract.specs.declared.Extracted.TheVariants as extracted
 use Rattle.extract.specs.Streams.{video_part, audio_part, video_stream, audio_stream, on_channel}
 use Rattle.extract.specs.Extraction.{contents_of, extracted_in, left_by, video_of, audio_of}
 use Rattle.extract.specs.Promises as promised
@@ -78,17 +76,17 @@ BytesPastTheStreamsStay container reading key video audio video_after audio_afte
           stays_past (audio_under by) container contents.audio_size audio audio_after chunks hold.1,
         )
     by_film (refused refusal) f =
-        let q : extracted.Film contents ≡ extracted.Refused refusal = rw f at e.0 in
+        let q : Ok contents ≡ Err refusal = rw f at e.0 in
         let z : ◌≡◌ {A = ℕ} 0 1 = cc in
         absurd (omega arith)
 
 -- ---- keys that agree where it counts
 
 module _ (key key' : ℕ) (a : AgreeWhereItCounts key key') where
-  same_unmasking : (codec : Codec) → unmasking_of (Given key) codec ≡ unmasking_of (Given key') codec
+  same_unmasking : (codec : Option ℕ) → unmasking_of (Some key) codec ≡ unmasking_of (Some key') codec
   same_unmasking codec = rw (same_keys key key' a)
 
-  one_film : (container : List ℕ) (f : Film) → (video_of container (Given key) f ≡ video_of container (Given key') f) × (audio_of container (Given key) f ≡ audio_of container (Given key') f)
+  one_film : (container : List ℕ) (f : Film) → (video_of container (Some key) f ≡ video_of container (Some key') f) × (audio_of container (Some key) f ≡ audio_of container (Some key') f)
   one_film container (film header applied chunks) = (
     ap (λ (by : Unmasking). video_stream container by chunks) (same_unmasking header.audio_codec),
     ap (λ (by : Unmasking). audio_stream container by chunks) (same_unmasking header.audio_codec),
@@ -127,14 +125,14 @@ module _ (key key' : ℕ) (payload : List ℕ) (p : ℕ) (h : p < length payload
 pub VideoDiffersPayloadByPayload : promised.VideoDiffersPayloadByPayload
 VideoDiffersPayloadByPayload container reading key key' video audio video_after audio_after video_after' audio_after' contents contents' header applied before after chunk p e e' f h =
     let payload = video_part chunk.kind (payload_of container chunk) in
-    ap₂ bit_xor (video_at container reading header applied before after chunk f (Given key) video audio video_after audio_after contents e p h)
-    (video_at container reading header applied before after chunk f (Given key') video audio video_after' audio_after' contents' e' p h)
+    ap₂ bit_xor (video_at container reading header applied before after chunk f (Some key) video audio video_after audio_after contents e p h)
+    (video_at container reading header applied before after chunk f (Some key') video audio video_after' audio_after' contents' e' p h)
     ∙ video_by_lem key key' payload p h (eqb chunk.data_type 0) (leb 0x240 (length payload)) refl
 
 pub AudioDiffersPayloadByPayload : promised.AudioDiffersPayloadByPayload
 AudioDiffersPayloadByPayload container reading key key' video audio video_after audio_after video_after' audio_after' contents contents' header applied before after chunk p e e' f h =
-    ap₂ bit_xor (audio_at_lem container reading header applied before after chunk f (Given key) video audio video_after audio_after contents e p h)
-    (audio_at_lem container reading header applied before after chunk f (Given key') video audio video_after' audio_after' contents' e' p h)
+    ap₂ bit_xor (audio_at_lem container reading header applied before after chunk f (Some key) video audio video_after audio_after contents e p h)
+    (audio_at_lem container reading header applied before after chunk f (Some key') video audio video_after' audio_after' contents' e' p h)
     ∙ audio_by_lem key key' (audio_part chunk.kind (payload_of container chunk)) p h (is_adx header.audio_codec && eqb chunk.data_type 0)
 
 -- ---- one channel
@@ -159,7 +157,7 @@ ChannelSizesSumToAll container reading key header applied chunks bytes e =
 pub NoAudioIsTheVideo : promised.NoAudioIsTheVideo
 NoAudioIsTheVideo container reading choice key video audio video_after audio_after contents audio' video_after' audio_after' r e e' = by_film (film_of container (with_audio choice reading)) refl
   where
-    by_film : (f : Film) → film_of container (with_audio choice reading) ≡ f → (r ≡ extracted.Film (without_audio contents)) × (video_after' ≡ video_after) × (audio_after' ≡ audio')
+    by_film : (f : Film) → film_of container (with_audio choice reading) ≡ f → (r ≡ Ok (without_audio contents)) × (video_after' ≡ video_after) × (audio_after' ≡ audio')
     by_film (film header applied chunks) f =
         let by = unmasking_of key header.audio_codec in
         let seen = video_size chunks in
@@ -168,16 +166,16 @@ NoAudioIsTheVideo container reading choice key video audio video_after audio_aft
         let p = passed (ltb (length video) seen || ltb (length audio) heard) (record { cause = ShortOutput seen heard; place = 0 }) (contents_of header seen heard) contents (rw f at e.0) in
         let long = both_long (length video) seen (length audio) heard p.0 in
         let size : seen ≡ contents.video_size = ap (λ (held : Contents). held.video_size) p.1 in
-        let answer : r ≡ extracted.Film (contents_of header seen 0) =
+        let answer : r ≡ Ok (contents_of header seen 0) =
         e'.0 ∙ ap (λ (g : Film). extracted_in (length video) (length audio') (survey_of g)) none
         ∙ rw (video_size_stays (λ n. false) chunks, no_audio_size chunks, le-ltb (length video) seen long.0, le-ltb (length audio') 0 (omega arith)) in
         let same : contents_of header seen 0 ≡ without_audio contents = ap without_audio p.1 in (
-          answer ∙ ap extracted.Film same,
-          e'.1 ∙ ap₂ (λ (a : Extracted) (g : Film). left_by a video (video_of container key g)) answer none ∙ ap (sets video 0) (video_stays container by (λ n. false) chunks)
+          answer ∙ ap Ok same,
+          e'.1 ∙ ap₂ (λ (a : Result Contents Refusal) (g : Film). left_by a video (video_of container key g)) answer none ∙ ap (sets video 0) (video_stays container by (λ n. false) chunks)
               ∙ sym (rw f at e.1),
-          e'.2 ∙ ap₂ (λ (a : Extracted) (g : Film). left_by a audio' (audio_of container key g)) answer none ∙ ap (sets audio' 0) (no_audio container by chunks),
+          e'.2 ∙ ap₂ (λ (a : Result Contents Refusal) (g : Film). left_by a audio' (audio_of container key g)) answer none ∙ ap (sets audio' 0) (no_audio container by chunks),
         )
     by_film (refused refusal) f =
-        let q : extracted.Film contents ≡ extracted.Refused refusal = rw f at e.0 in
+        let q : Ok contents ≡ Err refusal = rw f at e.0 in
         let z : ◌≡◌ {A = ℕ} 0 1 = cc in
         absurd (omega arith)

@@ -1,5 +1,6 @@
 -- What a result that is a film says of both outputs at exit: each has its stream at the front, each payload's piece at its place there, and is as it was
 -- past it. Assumes nothing.
+use Rattle.std.specs.Prelude.{Option, Ok}
 use Prim.Native.Nat.{ℕ, ◌+◌, ◌-◌, ◌≤◌, ◌<◌}
 use mathlib.Core.Path.{◌≡◌, refl, sym, ap, ◌∙◌}
 use mathlib.Core.List.{List, ◌∷◌, ◌++◌}
@@ -16,13 +17,11 @@ use Rattle.reading.specs.declared.Applied.{Applied}
 use Rattle.chunk.specs.declared.Chunk.{Chunk}
 use Rattle.chunk.specs.Chunks.{payload_of}
 use Rattle.walk.specs.Walks.{walk_from, joined, size_of, video_size, audio_size}
-use Rattle.unmasking.specs.declared.Key.{Key}
 use Rattle.unmasking.specs.declared.Unmasking.{Unmasking}
 use Rattle.unmasking.specs.Unmasking.{unmasking_of}
 use Rattle.header.specs.declared.Header.{Header}
 use Rattle.film.specs.Films.{film, film_of, survey_of}
 use Rattle.extract.specs.declared.Contents.{Contents}
-use Rattle.extract.specs.declared.Extracted.TheVariants as extracted
 use Rattle.extract.specs.Streams.{video_part, audio_part, video_piece, audio_piece}
 use Rattle.extract.specs.Extraction.{contents_of, Extraction}
 use Rattle.extract.specs.Promises.{SameFrom}
@@ -84,8 +83,8 @@ module _ (container : List ℕ) (reading : Reading) (header : Header) (applied :
   pub its_length : (stream : Stream) → length (joined (piece_of stream container) chunks) ≡ size_of stream.share chunks
   its_length stream = rw its_walk at (stream_length stream container applied header.start)
 
-  pub both_hold : (key : Key) (video audio video_after audio_after : List ℕ) (contents : Contents)
-      → Extraction container reading key video audio (extracted.Film contents) video_after audio_after
+  pub both_hold : (key : Option ℕ) (video audio video_after audio_after : List ℕ) (contents : Contents)
+      → Extraction container reading key video audio (Ok contents) video_after audio_after
       → Holds (video_under (unmasking_of key header.audio_codec)) container chunks contents.video_size video video_after
       × Holds (audio_under (unmasking_of key header.audio_codec)) container chunks contents.audio_size audio audio_after
   both_hold key video audio video_after audio_after contents e =
@@ -103,7 +102,7 @@ module _ (container : List ℕ) (reading : Reading) (header : Header) (applied :
 -- both outputs in a payload: what its chunk gives
 module _ (container : List ℕ) (reading : Reading) (header : Header) (applied : Applied) (before after : List Chunk) (chunk : Chunk)
     (f : film_of container reading ≡ film header applied (before ++ chunk ∷ after))
-    (key : Key) (video audio video_after audio_after : List ℕ) (contents : Contents) (e : Extraction container reading key video audio (extracted.Film contents) video_after audio_after)
+    (key : Option ℕ) (video audio video_after audio_after : List ℕ) (contents : Contents) (e : Extraction container reading key video audio (Ok contents) video_after audio_after)
     (p : ℕ) where
   abbrev by : Unmasking
   by = unmasking_of key header.audio_codec

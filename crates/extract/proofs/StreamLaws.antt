@@ -1,5 +1,6 @@
 -- A stream takes a part of each payload, by the chunk's kind, and makes it clear at its own length. The payload of a chunk that was found is in the
 -- container, so a stream is as long as its size says. Assumes nothing.
+use Rattle.std.specs.Prelude.{Some, Ok}
 use Prim.Native.Nat.{ℕ, ◌+◌}
 use mathlib.Core.Path.{◌≡◌, refl, sym, ap, ap₂, ◌∙◌}
 use mathlib.Core.List.{List, [], ◌∷◌, ◌++◌, append-nil, append_assoc}
@@ -13,7 +14,6 @@ use Rattle.mask.proofs.UndoLaws.{video_length, audio_length}
 use Rattle.chunk.specs.declared.Kind.{Kind}
 use Rattle.chunk.specs.declared.Kind.TheVariants.{Video, Audio, Other, End}
 use Rattle.chunk.specs.declared.Chunk.{Chunk}
-use Rattle.chunk.specs.declared.ChunkStep.TheVariants.{Found}
 use Rattle.chunk.specs.Chunks.{chunk_at, payload_of}
 use Rattle.chunk.proofs.Promises.{PayloadsLieWithin}
 use Rattle.walk.specs.Walks.{walk_from, joined, video_in, audio_in, size_of}
@@ -72,7 +72,7 @@ audio_under by = record { part = audio_part; share = audio_in; clear = clear_aud
 
 -- ---- how long a stream is
 
-module _ (container : List ℕ) (reading : Applied) (c : ℕ) (chunk : Chunk) (e : chunk_at container reading c ≡ Found chunk) where
+module _ (container : List ℕ) (reading : Applied) (c : ℕ) (chunk : Chunk) (e : chunk_at container reading c ≡ Ok (Some chunk)) where
   piece_length : (stream : Stream) → length (piece_of stream container chunk) ≡ stream.share chunk.kind chunk.len
   piece_length stream =
       stream.keeps chunk.data_type (stream.part chunk.kind (payload_of container chunk))
@@ -94,7 +94,7 @@ module _ (stream : Stream) (container : List ℕ) (reading : Applied) where
   none_sized c [] after s = refl
   none_sized c (chunk ∷ before) after s = let z : ◌≡◌ {A = ℕ} 0 1 = cc in absurd (omega arith)
 
-  one_more_sized : (c : ℕ) (chunk : Chunk) (chunks : List Chunk) → chunk_at container reading c ≡ Found chunk → Sized chunk.next chunks → Sized c (chunk ∷ chunks)
+  one_more_sized : (c : ℕ) (chunk : Chunk) (chunks : List Chunk) → chunk_at container reading c ≡ Ok (Some chunk) → Sized chunk.next chunks → Sized c (chunk ∷ chunks)
   unfolding joined size_of
   one_more_sized c chunk chunks e rest [] after s = refl
   one_more_sized c chunk chunks e rest (first ∷ before) after s =

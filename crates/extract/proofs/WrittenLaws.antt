@@ -1,5 +1,6 @@
 -- A stream while it is written: what was written, with the pieces of the chunks from here on, is what the whole stream leaves, by the law of `walk` for
 -- pieces that are put into an output. A piece is as long as its part of the payload, so it has room where the stream has. Assumes nothing.
+use Rattle.std.specs.Prelude.{Some, None, Ok, Err}
 use Prim.Native.Nat.{ℕ, ◌+◌, ◌≤◌}
 use mathlib.Core.Path.{◌≡◌, sym, ap, ◌∙◌}
 use mathlib.Core.List.{List}
@@ -9,7 +10,6 @@ use lib.Seq.{sets}
 use Rattle.refusal.specs.declared.Refusal.{Refusal}
 use Rattle.reading.specs.declared.Applied.{Applied}
 use Rattle.chunk.specs.declared.Chunk.{Chunk}
-use Rattle.chunk.specs.declared.ChunkStep.TheVariants.{Over, Found, Refused}
 use Rattle.chunk.specs.Chunks.{chunk_at, payload_of}
 use Rattle.walk.specs.Walks.{walk_from, size_of}
 use Rattle.walk.proofs.PutLaws.{Output, Putting, put_starts, put-length, put-over, put_refused, put-fits, put-found}
@@ -27,15 +27,15 @@ module _ (stream : Stream) (container : List ℕ) (reading : Applied) (start : �
     pub as_long : length out ≡ length out₀
     as_long = put-length (piece_of stream container) container reading start out₀ c written out w.putting
 
-    pub all_written : chunk_at container reading c ≡ Over → out ≡ sets out₀ 0 (stream_from stream container reading start)
+    pub all_written : chunk_at container reading c ≡ Ok None → out ≡ sets out₀ 0 (stream_from stream container reading start)
     all_written e = ap (λ (o : Output ℕ). o.holds) (put-over (piece_of stream container) container reading start out₀ c written out w.putting e)
 
-    pub all_before_refusal : (refusal : Refusal) → chunk_at container reading c ≡ Refused refusal → out ≡ sets out₀ 0 (stream_from stream container reading start)
+    pub all_before_refusal : (refusal : Refusal) → chunk_at container reading c ≡ Err refusal → out ≡ sets out₀ 0 (stream_from stream container reading start)
     all_before_refusal refusal e =
         ap (λ (o : Output ℕ). o.holds) (put_refused (piece_of stream container) container reading start out₀ c written out w.putting refusal e)
 
     -- a chunk's payload, and the part of it that is the stream's
-    module _ (chunk : Chunk) (e : chunk_at container reading c ≡ Found chunk) (payload part : List ℕ) (is-payload : payload ≡ payload_of container chunk)
+    module _ (chunk : Chunk) (e : chunk_at container reading c ≡ Ok (Some chunk)) (payload part : List ℕ) (is-payload : payload ≡ payload_of container chunk)
         (is_part : part ≡ stream.part chunk.kind payload) where
       is-piece : stream.clear chunk.data_type part ≡ piece_of stream container chunk
       is-piece = rw (is_part, is-payload)

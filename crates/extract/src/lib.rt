@@ -11,33 +11,25 @@ ghost use Rattle.walk.specs.Walks.{walk_from, video_size, audio_size};
 ghost use Rattle.extract.specs.Streams.{video_part, audio_part, video_stream, audio_stream};
 ghost use Rattle.extract.specs.Extraction.{refused_by, contents_of, Extraction};
 
-use chunk::{ChunkStep, Kind};
-use codec::{AudioKind, Codec, VideoKind};
-use film::Surveyed;
+use chunk::Kind;
+use codec::{AudioKind, VideoKind};
 use film_name::Name;
 use header::Header;
 use reading::{Applied, Reading};
 use refusal::{Cause, Refusal};
-use unmasking::{Key, Unmasking};
+use unmasking::Unmasking;
 
 // What a film holds, besides the bytes of its streams.
 #[derive(Clone, Copy)]
 pub struct Contents {
-    pub name: Name,
+    pub name: Option<Name>,
     pub audio: bool,
-    pub mpeg_codec: Codec,
-    pub audio_codec: Codec,
+    pub mpeg_codec: Option<u32>,
+    pub audio_codec: Option<u32>,
     pub video_kind: VideoKind,
     pub audio_kind: AudioKind,
     pub video_size: usize,
     pub audio_size: usize,
-}
-
-// What an extraction answers.
-#[derive(Clone, Copy)]
-pub enum Extracted {
-    Film(Contents),
-    Refused(Refusal),
 }
 
 // A payload's share in the video stream: all of a video payload, nothing of another.
@@ -74,7 +66,8 @@ fn put_video(payload: &[u8], data_type: u8, unmasking: Unmasking, out: &mut [u8]
     unmasking::unmask_video(&mut out[at..end], data_type, unmasking);
 }
 
-// Puts an audio payload, made clear, into an output from a place on.
+// Puts an audio payload, made clear, into an output from a place on. One function for both streams would take what makes a payload
+// clear as a closure over a lent slice, and be no plainer.
 fn put_audio(payload: &[u8], data_type: u8, unmasking: Unmasking, out: &mut [u8], at: usize)
     requires { at + length payload.now ≤ length out.old }
     ensures { out.new ≡ sets out.old at (clear_audio unmasking data_type payload.now) }
@@ -101,26 +94,16 @@ fn write_streams(
     let mut at = start;
     let mut seen: usize = 0;
     let mut heard: usize = 0;
-    loop {
-        match chunk::chunk_at(container, at, reading) {
-            ChunkStep::Over => {
-                return;
-            }
-            ChunkStep::Refused(_) => {
-                return;
-            }
-            ChunkStep::Found(chunk) => {
-                let kind = chunk.kind;
-                let payload = chunk::payload_of(container, chunk);
-                let for_video = video_part(kind, payload);
-                let for_audio = audio_part(kind, payload);
-                put_video(for_video, chunk.data_type, unmasking, video, seen);
-                put_audio(for_audio, chunk.data_type, unmasking, audio, heard);
-                seen += for_video.len();
-                heard += for_audio.len();
-                at = chunk.next;
-            }
-        }
+    while let Ok(Some(chunk)) = chunk::chunk_at(container, at, reading) {
+        let kind = chunk.kind;
+        let payload = chunk::payload_of(container, chunk);
+        let for_video = video_part(kind, payload);
+        let for_audio = audio_part(kind, payload);
+        put_video(for_video, chunk.data_type, unmasking, video, seen);
+        put_audio(for_audio, chunk.data_type, unmasking, audio, heard);
+        seen += for_video.len();
+        heard += for_audio.len();
+        at = chunk.next;
     }
 }
 
@@ -132,13 +115,6 @@ fn lacks(video: usize, seen: usize, audio: usize, heard: usize) -> bool
         return true;
     }
     audio < heard
-}
-
-// A refusal of a whole film, at place 0.
-fn refused(cause: Cause) -> Extracted
-    ensures { result ≡ refused_by cause }
-{
-    Extracted::Refused(Refusal { cause, place: 0 })
 }
 
 // What a film of a header and two sizes holds.
@@ -164,31 +140,26 @@ pub fn contents_of(header: Header, video: usize, audio: usize) -> Contents
 pub fn extract(
     container: &[u8],
     reading: Reading,
-    key: Key,
+    key: Option<u64>,
     video: &mut [u8],
     audio: &mut [u8],
-) -> Extracted
+) -> Result<Contents, Refusal>
     ensures { Extraction container.now reading key video.old audio.old result video.new audio.new }
 {
-    match film::survey(container, reading) {
-        Surveyed::Film {
-            header,
-            reading: applied,
-            count: _,
-            video: seen,
-            audio: heard,
-        } => {
-            if lacks(video.len(), seen, audio.len(), heard) {
-                return refused(Cause::ShortOutput {
-                    video: seen,
-                    audio: heard,
-                });
-            }
-            let codec = header.audio_codec;
-            let unmasking = unmasking::unmasking_of(key, codec);
-            write_streams(container, header.start, applied, unmasking, video, audio);
-            Extracted::Film(contents_of(header, seen, heard))
-        }
-        Surveyed::Refused(refusal) => Extracted::Refused(refusal),
+    let survey = film::survey(container, reading)?;
+    if lacks(video.len(), survey.video, audio.len(), survey.audio) {
+        return refusal::refused(
+            Cause::ShortOutput {
+                video: survey.video,
+                audio: survey.audio,
+            },
+            0,
+        );
     }
+    let header = survey.header;
+    let codec = header.audio_codec;
+    let unmasking = unmasking::unmasking_of(key, codec);
+    let applied = survey.reading;
+    write_streams(container, header.start, applied, unmasking, video, audio);
+    Ok(contents_of(header, survey.video, survey.audio))
 }

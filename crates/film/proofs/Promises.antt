@@ -1,5 +1,6 @@
 -- The promises of specs/Promises.antt, each under its name: audio choice and payload mode are not asked in the header, and the walk goes where the other goes.
 -- Assumes nothing.
+use Rattle.std.specs.Prelude.{Result, Ok, Err}
 use Prim.Native.Nat.{ℕ}
 use mathlib.Core.Path.{◌≡◌, refl, sym, ap, ap₂, ◌∙◌}
 use mathlib.Core.List.{List, map}
@@ -14,17 +15,14 @@ use Rattle.reading.specs.declared.Reading.{Reading}
 use Rattle.reading.specs.declared.Applied.{Applied}
 use Rattle.reading.specs.Choices.{takes_channel, applied_to}
 use Rattle.chunk.specs.declared.Chunk.{Chunk}
-use Rattle.chunk.specs.declared.ChunkStep.TheVariants as step
 use Rattle.chunk.specs.Chunks.{chunk_at}
 use Rattle.chunk.specs.Channels.{keeping, only, silenced}
-use Rattle.chunk.proofs.ChannelLaws.{Some}
+use Rattle.chunk.proofs.ChannelLaws.{TakesSome}
 use Rattle.walk.specs.Walks.{Ending, clean, stopped, walk_from}
 use Rattle.walk.proofs.ChannelLaws.{keeping_walk}
 use Rattle.walk.proofs.Promises.{ModesAgreeOnAWalk, RefusedByAChunk}
 use Rattle.block.specs.Blocks.{table_block, codec_block, name_block}
 use Rattle.header.specs.declared.Header.{Header}
-use Rattle.header.specs.declared.HeaderAnswer.{HeaderAnswer}
-use Rattle.header.specs.declared.HeaderAnswer.TheVariants as answer
 use Rattle.header.specs.Headers.{step1, step2, step3, step3_audio, step4, step5, step6, step7, step7_table, header_of}
 use Rattle.film.specs.Films.{film, refused, ended_as, walked_as, film_from, after_header, film_of}
 use Rattle.film.specs.Promises as promised
@@ -36,8 +34,8 @@ unfolding header_of step1 step2 step3 step3_audio step4 step5 step6 step7 step7_
 same_header container reading other e = rw e
 
 -- what a film that is accepted says of its header and of its walk
-record Accepted (container : List ℕ) (reading : Reading) (header : Header) (applied : Applied) (chunks : List Chunk) (a : HeaderAnswer) : Type 0 where
-  read : a ≡ answer.Read header
+record Accepted (container : List ℕ) (reading : Reading) (header : Header) (applied : Applied) (chunks : List Chunk) (a : Result Header Refusal) : Type 0 where
+  read : a ≡ Ok header
   applies : applied_to header.audio reading ≡ applied
   clean_end : (walk_from container (applied_to header.audio reading) header.start).ending ≡ clean
   found : (walk_from container (applied_to header.audio reading) header.start).chunks ≡ chunks
@@ -47,14 +45,14 @@ module _ (container : List ℕ) (reading : Reading) (header : Header) (applied :
   ended h k all clean e = (cc, cc, cc, refl)
   ended h k all (stopped refusal) e = let z : ◌≡◌ {A = ℕ} 0 1 = cc in absurd (omega arith)
 
-  of_answer : (a : HeaderAnswer) → after_header (film_from container reading) a ≡ film header applied chunks → Accepted container reading header applied chunks a
+  of_answer : (a : Result Header Refusal) → after_header (film_from container reading) a ≡ film header applied chunks → Accepted container reading header applied chunks a
   unfolding film_from
-  of_answer (answer.Read h) e =
+  of_answer (Ok h) e =
       let k = applied_to h.audio reading in
       let w = walk_from container k h.start in
       let all = ended h k w.chunks w.ending e in
       rw (sym all.0) (record { read = refl; applies = all.1; clean_end = all.3; found = all.2 })
-  of_answer (answer.Refused refusal) e = let z : ◌≡◌ {A = ℕ} 0 1 = cc in absurd (omega arith)
+  of_answer (Err refusal) e = let z : ◌≡◌ {A = ℕ} 0 1 = cc in absurd (omega arith)
 
   of_film : film_of container reading ≡ film header applied chunks → Accepted container reading header applied chunks (header_of container reading)
   unfolding film_of
@@ -62,7 +60,7 @@ module _ (container : List ℕ) (reading : Reading) (header : Header) (applied :
 
 -- a film with more audio is one with less
 less : (container : List ℕ) (reading : Reading) (choice fewer : AudioChoice) (kept : ℕ → Bool)
-    → ((present : Bool) → Some kept (applied_to present (with_audio choice reading)) (applied_to present (with_audio fewer reading)))
+    → ((present : Bool) → TakesSome kept (applied_to present (with_audio choice reading)) (applied_to present (with_audio fewer reading)))
     → (header : Header) (applied : Applied) (chunks : List Chunk) → film_of container (with_audio choice reading) ≡ film header applied chunks
     → film_of container (with_audio fewer reading) ≡ film header (applied_to header.audio (with_audio fewer reading)) (map (keeping kept) chunks)
 unfolding film_of film_from
@@ -75,7 +73,7 @@ less container reading choice fewer kept narrow header applied chunks e =
 
 -- one channel is taken of what all is taken of, with audio and without
 one_of_all : (reading : Reading) (channel : ℕ) (present : Bool)
-    → Some (λ n. eqb n channel) (applied_to present (with_audio Chosen reading)) (applied_to present (with_audio (Channel channel) reading))
+    → TakesSome (λ n. eqb n channel) (applied_to present (with_audio Chosen reading)) (applied_to present (with_audio (Channel channel) reading))
 one_of_all reading channel true = record { mode = refl; takes = λ n. refl }
 one_of_all reading channel false = record { mode = refl; takes = λ n. refl }
 
@@ -89,7 +87,7 @@ none_taken true = refl
 none_taken false = refl
 
 none_of_any : (reading : Reading) (choice : AudioChoice) (present : Bool)
-    → Some (λ n. false) (applied_to present (with_audio choice reading)) (applied_to present (with_audio NotChosen reading))
+    → TakesSome (λ n. false) (applied_to present (with_audio choice reading)) (applied_to present (with_audio NotChosen reading))
 none_of_any reading choice true = record { mode = refl; takes = λ n. none_taken (takes_channel choice n) }
 none_of_any reading choice false = record { mode = refl; takes = λ n. refl }
 
@@ -110,7 +108,7 @@ ModesAgreeOnAFilm container reading mode header applied chunks e plain =
 
 module _ (container : List ℕ) (reading : Reading) (refusal : Refusal) where
   abbrev ByChunk : Header → Type 0
-  ByChunk header = chunk_at container (applied_to header.audio reading) refusal.place ≡ step.Refused refusal
+  ByChunk header = chunk_at container (applied_to header.audio reading) refusal.place ≡ Err refusal
 
   by_ending : (header : Header) (chunks : List Chunk) (ending : Ending) → (walk_from container (applied_to header.audio reading) header.start).ending ≡ ending
       → ended_as header (applied_to header.audio reading) chunks ending ≡ refused refusal → ByChunk header
@@ -119,13 +117,13 @@ module _ (container : List ℕ) (reading : Reading) (refusal : Refusal) where
       let same : other ≡ refusal = cc in
       RefusedByAChunk container (applied_to header.audio reading) header.start refusal (w ∙ ap stopped same)
 
-  by_answer : (a : HeaderAnswer) → after_header (film_from container reading) a ≡ refused refusal
-      → (a ≡ answer.Refused refusal) ⊎ ((header : Header) × ((a ≡ answer.Read header) × ByChunk header))
+  by_answer : (a : Result Header Refusal) → after_header (film_from container reading) a ≡ refused refusal
+      → (a ≡ Err refusal) ⊎ ((header : Header) × ((a ≡ Ok header) × ByChunk header))
   unfolding film_from
-  by_answer (answer.Read header) e =
+  by_answer (Ok header) e =
       let w = walk_from container (applied_to header.audio reading) header.start in
       inr (header, (refl, by_ending header w.chunks w.ending refl e))
-  by_answer (answer.Refused other) e = inl (cc)
+  by_answer (Err other) e = inl (cc)
 
 pub RefusedByHeaderOrChunk : promised.RefusedByHeaderOrChunk
 unfolding film_of

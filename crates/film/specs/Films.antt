@@ -1,5 +1,6 @@
 -- Rules R: a container as a whole. "11 comes first; then the walk's first refusal in reading order".
-use Rattle.std.specs.Prelude.{List, ℕ, length}
+use Rattle.std.specs.Prelude.{List, ℕ, length, Result, Ok, Err}
+use Rattle.film.specs.declared.Surveyed.{Surveyed}
 use Rattle.refusal.specs.declared.Refusal.{Refusal}
 use Rattle.reading.specs.declared.Reading.{Reading}
 use Rattle.reading.specs.declared.Applied.{Applied}
@@ -7,11 +8,7 @@ use Rattle.reading.specs.Choices.{applied_to}
 use Rattle.chunk.specs.declared.Chunk.{Chunk}
 use Rattle.walk.specs.Walks.{Walk, Ending, clean, stopped, walk_from, video_size, audio_size}
 use Rattle.header.specs.declared.Header.{Header}
-use Rattle.header.specs.declared.HeaderAnswer.{HeaderAnswer}
-use Rattle.header.specs.declared.HeaderAnswer.TheVariants as answer
 use Rattle.header.specs.Headers.{header_of}
-use Rattle.film.specs.declared.Surveyed.{Surveyed}
-use Rattle.film.specs.declared.Surveyed.TheVariants as survey
 
 -- a film that is read: its header, how it is read, and its chunks. Or the refusal
 pub data Film : Type 0 where
@@ -33,14 +30,14 @@ film_by container header applied = walked_as header applied (walk_from container
 unfoldable pub film_from : List ℕ → Reading → Header → Film
 film_from container reading header = film_by container header (applied_to header.audio reading)
 
-abbrev pub after_header : (Header → Film) → HeaderAnswer → Film
-after_header k (answer.Read header) = k header
-after_header k (answer.Refused refusal) = refused refusal
+abbrev pub after_header : (Header → Film) → Result Header Refusal → Film
+after_header k (Ok header) = k header
+after_header k (Err refusal) = refused refusal
 
 unfoldable pub film_of : List ℕ → Reading → Film
 film_of container reading = after_header (film_from container reading) (header_of container reading)
 
 -- count and sizes are sums over the chunks
-abbrev pub survey_of : Film → Surveyed
-survey_of (film header applied chunks) = survey.Film header applied (length chunks) (video_size chunks) (audio_size chunks)
-survey_of (refused refusal) = survey.Refused refusal
+abbrev pub survey_of : Film → Result Surveyed Refusal
+survey_of (film header applied chunks) = Ok (record { header = header; reading = applied; count = length chunks; video = video_size chunks; audio = audio_size chunks })
+survey_of (refused refusal) = Err refusal

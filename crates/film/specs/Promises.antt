@@ -1,5 +1,5 @@
 -- What a film promises of one channel of its audio, of none of it, and of both payload modes. Each is proved under the same name in proofs/Promises.antt.
-use Rattle.std.specs.Prelude.{ℕ, ◌≡◌, ◌⊎◌, List, map}
+use Rattle.std.specs.Prelude.{ℕ, ◌≡◌, ◌⊎◌, List, map, Ok, Err}
 use Rattle.refusal.specs.declared.Refusal.{Refusal}
 use Rattle.reading.specs.declared.AudioChoice.{AudioChoice}
 use Rattle.reading.specs.declared.AudioChoice.TheVariants.{NotChosen, Chosen, Channel}
@@ -8,12 +8,10 @@ use Rattle.reading.specs.declared.Reading.{Reading}
 use Rattle.reading.specs.declared.Applied.{Applied}
 use Rattle.reading.specs.Choices.{applied_to}
 use Rattle.chunk.specs.declared.Chunk.{Chunk}
-use Rattle.chunk.specs.declared.ChunkStep.TheVariants as step
 use Rattle.chunk.specs.Chunks.{chunk_at}
 use Rattle.chunk.specs.Channels.{only, silenced}
 use Rattle.walk.specs.Promises.{Plain}
 use Rattle.header.specs.declared.Header.{Header}
-use Rattle.header.specs.declared.HeaderAnswer.TheVariants as answer
 use Rattle.header.specs.Headers.{header_of}
 use Rattle.film.specs.Films.{film, refused, film_of}
 
@@ -52,5 +50,5 @@ ModesAgreeOnAFilm =
 abbrev pub RefusedByHeaderOrChunk : Type 0
 RefusedByHeaderOrChunk =
     (container : List ℕ) (reading : Reading) (refusal : Refusal) → film_of container reading ≡ refused refusal
-    → (header_of container reading ≡ answer.Refused refusal)
-    ⊎ ((header : Header) × ((header_of container reading ≡ answer.Read header) × (chunk_at container (applied_to header.audio reading) refusal.place ≡ step.Refused refusal)))
+    → (header_of container reading ≡ Err refusal)
+    ⊎ ((header : Header) × ((header_of container reading ≡ Ok header) × (chunk_at container (applied_to header.audio reading) refusal.place ≡ Err refusal)))

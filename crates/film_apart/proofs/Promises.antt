@@ -1,4 +1,6 @@
 -- The promises of specs/Promises.antt under their names: payload by payload the outputs are as far apart as rules D say. Assumes nothing.
+use Rattle.std.specs.Prelude.{Option, Some, None, Ok, Err}
+use Rattle.std.specs.Option.{option_or}
 use Prim.Native.Nat.{ℕ, ◌+◌, ◌-◌, ◌%◌, ◌≤◌, ◌<◌}
 use mathlib.Core.Path.{◌≡◌, refl, sym, ap, ◌∙◌}
 use mathlib.Core.Logic.{◌↔◌, ⊎_elim}
@@ -17,14 +19,11 @@ use Rattle.mask.specs.Positions.{difference, video_differs, audio_differs}
 use Rattle.mask.specs.Promises.{apart}
 use Rattle.reading.specs.declared.Applied.{Applied}
 use Rattle.reading.specs.declared.Reading.{Reading}
-use Rattle.codec.specs.declared.Codec.{Codec}
-use Rattle.unmasking.specs.declared.Key.TheVariants.{Given}
 use Rattle.unmasking.specs.declared.Mask.TheVariants.{Clear, VideoMask, AudioMask}
 use Rattle.unmasking.specs.Unmasking.{is_adx, unmasking_of}
 use Rattle.chunk.specs.declared.Kind.{Kind}
 use Rattle.chunk.specs.declared.Kind.TheVariants.{Video, Audio, Other, End}
 use Rattle.chunk.specs.declared.Chunk.{Chunk}
-use Rattle.chunk.specs.declared.ChunkStep.TheVariants as step
 use Rattle.chunk.specs.Chunks.{chunk_at, payload_of}
 use Rattle.chunk.proofs.Promises.{PayloadsLieWithin}
 use Rattle.chunk_mask.specs.ChunkMasks.{mask_of}
@@ -33,7 +32,6 @@ use Rattle.walk.proofs.WalkLaws.{every_walk}
 use Rattle.header.specs.declared.Header.{Header}
 use Rattle.film.specs.Films.{Film, film, refused, film_of}
 use Rattle.extract.specs.declared.Contents.{Contents}
-use Rattle.extract.specs.declared.Extracted.TheVariants as extracted
 use Rattle.extract.specs.Streams.{video_part, audio_part}
 use Rattle.extract.specs.Extraction.{Extraction}
 use Rattle.extract.specs.Promises.{SameFrom}
@@ -47,8 +45,7 @@ use Rattle.film_apart.specs.declared.Stream.{Stream}
 use Rattle.film_apart.specs.declared.Stream.TheVariants.{VideoStream, AudioStream}
 use Rattle.film_apart.specs.declared.WhySame.TheVariants.{Differ, OneKey, NeverCount, NotShown}
 use Rattle.film_apart.specs.declared.Parting.{Parting}
-use Rattle.film_apart.specs.declared.Parting.TheVariants.{Same, Apart, Refused}
-use Rattle.film_apart.specs.FilmsApart.{part_in, apart_of, apart_from, or_else, chunks_apart, film_apart}
+use Rattle.film_apart.specs.FilmsApart.{part_in, apart_of, apart_from, film_apart}
 use Rattle.film_apart.specs.Promises as promised
 use Rattle.film_apart.specs.Promises.{Means, Holds, Says}
 use Rattle.key.specs.CountingBits.{counting_bits}
@@ -59,25 +56,23 @@ use Rattle.key_shown.proofs.Promises.{SameStreamsExactlyWhenBitsAgree}
 -- ---- one stream, whose bytes are so far apart
 
 -- what an answer says of so many bytes, after those passed
-abbrev Told : Stream → (ℕ → ℕ) → ℕ → ℕ → Parting → Type 0
-Told stream d passed size Same = (p : ℕ) → passed ≤ p → p < passed + size → d p ≡ 0
-Told stream d passed size (Apart stream' byte chunk offset) = (stream' ≡ stream) × ((p : ℕ) → passed ≤ p → p < byte → d p ≡ 0) × (d byte ≡ 0 → ⊥)
-Told stream d passed size (Refused refusal) = ⊥
+abbrev Told : Stream → (ℕ → ℕ) → ℕ → ℕ → Option Parting → Type 0
+Told stream d passed size None = (p : ℕ) → passed ≤ p → p < passed + size → d p ≡ 0
+Told stream d passed size (Some parting) = (parting.stream ≡ stream) × ((p : ℕ) → passed ≤ p → p < parting.byte → d p ≡ 0) × (d parting.byte ≡ 0 → ⊥)
 
 size_after : (stream : Stream) (before : List Chunk) (chunk : Chunk) → size_of (part_in stream) (before ++ chunk ∷ []) ≡ size_of (part_in stream) before + part_in stream chunk.kind chunk.len
 unfolding size_of
 size_after stream [] chunk = omega arith
 size_after stream (first ∷ before) chunk = omega (arith, size_after stream before chunk)
 
-module _ (stream : Stream) (codec : Codec) (key key' : ℕ) (container : List ℕ) (reading : Applied) (all : List Chunk) (d : ℕ → ℕ)
+module _ (stream : Stream) (codec : Option ℕ) (key key' : ℕ) (container : List ℕ) (reading : Applied) (all : List Chunk) (d : ℕ → ℕ)
     (law : (before after : List Chunk) (chunk : Chunk) → all ≡ before ++ chunk ∷ after → length (payload_of container chunk) ≡ chunk.len
     → Parts (λ p. d (size_of (part_in stream) before + p)) (part_in stream chunk.kind chunk.len) (apart_of stream codec key key' chunk)) where
   -- more of the same after one chunk that has no difference
-  longer : (passed part size : ℕ) → ((p : ℕ) → passed ≤ p → p < passed + part → d p ≡ 0) → (r : Parting) → Told stream d (passed + part) size r → Told stream d passed (part + size) r
-  longer passed part size none Same rest = λ p h k. ⊎_elim (λ (l : p < passed + part). none p h l) (λ (l : passed + part ≤ p). rest p l (omega arith)) (side p (passed + part))
-  longer passed part size none (Apart stream' byte chunk offset) (e, rest, here) =
+  longer : (passed part size : ℕ) → ((p : ℕ) → passed ≤ p → p < passed + part → d p ≡ 0) → (r : Option Parting) → Told stream d (passed + part) size r → Told stream d passed (part + size) r
+  longer passed part size none None rest = λ p h k. ⊎_elim (λ (l : p < passed + part). none p h l) (λ (l : passed + part ≤ p). rest p l (omega arith)) (side p (passed + part))
+  longer passed part size none (Some parting) (e, rest, here) =
       (e, λ p h k. ⊎_elim (λ (l : p < passed + part). none p h l) (λ (l : passed + part ≤ p). rest p l k) (side p (passed + part)), here)
-  longer passed part size none (Refused refusal) rest = rest
 
   abbrev Parted : ℕ → List Chunk → Type 0
   Parted c chunks =
@@ -88,7 +83,7 @@ module _ (stream : Stream) (codec : Codec) (key key' : ℕ) (container : List �
   unfolding size_of apart_from
   none_parted c before e = λ p h k. absurd (omega arith)
 
-  module _ (c : ℕ) (chunk : Chunk) (chunks : List Chunk) (e : chunk_at container reading c ≡ step.Found chunk) (rest : Parted chunk.next chunks)
+  module _ (c : ℕ) (chunk : Chunk) (chunks : List Chunk) (e : chunk_at container reading c ≡ Ok (Some chunk)) (rest : Parted chunk.next chunks)
       (before : List Chunk) (w : all ≡ before ++ chunk ∷ chunks) where
     abbrev part : ℕ
     part = part_in stream chunk.kind chunk.len
@@ -109,11 +104,11 @@ module _ (stream : Stream) (codec : Codec) (key key' : ℕ) (container : List �
     after_it = rw (size_after stream before chunk) at (rest (before ++ chunk ∷ []) (w ∙ sym (append_assoc before (chunk ∷ []) chunks)))
 
     by_test : (b : Bool) → ltb first part ≡ b
-        → Told stream d passed (part + size_of (part_in stream) chunks) (cond b (Apart stream (passed + first) chunk.start first) (apart_from stream codec key key' (passed + part) chunks))
+        → Told stream d passed (part + size_of (part_in stream) chunks) (cond b (Some (record { stream = stream; byte = passed + first; chunk = chunk.start; offset = first })) (apart_from stream codec key key' (passed + part) chunks))
     by_test true t = (refl, none_in_it first (omega arith), in_it.here (ltb-true first part t))
     by_test false t = longer passed part (size_of (part_in stream) chunks) (none_in_it part (ltb-false first part t)) (apart_from stream codec key key' (passed + part) chunks) after_it
 
-  one_more_parted : (c : ℕ) (chunk : Chunk) (chunks : List Chunk) → chunk_at container reading c ≡ step.Found chunk → Parted chunk.next chunks → Parted c (chunk ∷ chunks)
+  one_more_parted : (c : ℕ) (chunk : Chunk) (chunks : List Chunk) → chunk_at container reading c ≡ Ok (Some chunk) → Parted chunk.next chunks → Parted c (chunk ∷ chunks)
   unfolding size_of apart_from
   one_more_parted c chunk chunks e rest before w = by_test c chunk chunks e rest before w (ltb (apart_of stream codec key key' chunk) (part_in stream chunk.kind chunk.len)) refl
 
@@ -134,7 +129,7 @@ audio_mask_lem true true n p difference = refl
 audio_mask_lem true false n p difference = refl
 audio_mask_lem false b n p difference = refl
 
-module _ (codec : Codec) (key key' data-type n : ℕ) (d : ℕ → ℕ) where
+module _ (codec : Option ℕ) (key key' data-type n : ℕ) (d : ℕ → ℕ) where
   video_share : (kind : Kind)
       → ((p : ℕ) → p < video_in kind n → d p ≡ cond ((eqb data-type 0 && leb 0x240 (video_in kind n)) && video_differs p) (difference key key' (p % 0x20)) 0)
       → Parts d (video_in kind n) (apart_in (mask_of codec kind data-type) key key' (video_in kind n))
@@ -171,21 +166,21 @@ not_parted out out' before size none same same' =
 module _ (container : List ℕ) (reading : Reading) (header : Header) (applied : Applied) (chunks : List Chunk) (f : film_of container reading ≡ film header applied chunks)
     (video audio : List ℕ) where
   -- past both streams the outputs are as they were
-  past_them : (key : ℕ) (video_after audio_after : List ℕ) (contents : Contents) → Extraction container reading (Given key) video audio (extracted.Film contents) video_after audio_after
+  past_them : (key : ℕ) (video_after audio_after : List ℕ) (contents : Contents) → Extraction container reading (Some key) video audio (Ok contents) video_after audio_after
       → SameFrom (video_size chunks) video video_after × SameFrom (audio_size chunks) audio audio_after
   past_them key video_after audio_after contents e =
-      let by = unmasking_of (Given key) header.audio_codec in
-      let hold = both_hold container reading header applied chunks f (Given key) video audio video_after audio_after contents e in
-      let past = BytesPastTheStreamsStay container reading (Given key) video audio video_after audio_after contents e in
+      let by = unmasking_of (Some key) header.audio_codec in
+      let hold = both_hold container reading header applied chunks f (Some key) video audio video_after audio_after contents e in
+      let past = BytesPastTheStreamsStay container reading (Some key) video audio video_after audio_after contents e in
       let v : contents.video_size ≡ video_size chunks = sym hold.0.long ∙ its_length container reading header applied chunks f (video_under by) in
       let a : contents.audio_size ≡ audio_size chunks = sym hold.1.long ∙ its_length container reading header applied chunks f (audio_under by) in
       (rw v at past.0, rw a at past.1)
 
 module _ (container : List ℕ) (reading : Reading) (header : Header) (applied : Applied) (chunks : List Chunk) (f : film_of container reading ≡ film header applied chunks)
     (key key' : ℕ) (video audio video_after audio_after video_after' audio_after' : List ℕ) (contents contents' : Contents)
-    (e : Extraction container reading (Given key) video audio (extracted.Film contents) video_after audio_after)
-    (e' : Extraction container reading (Given key') video audio (extracted.Film contents') video_after' audio_after') where
-  abbrev codec : Codec
+    (e : Extraction container reading (Some key) video audio (Ok contents) video_after audio_after)
+    (e' : Extraction container reading (Some key') video audio (Ok contents') video_after' audio_after') where
+  abbrev codec : Option ℕ
   codec = header.audio_codec
 
   videos : Told VideoStream (apart video_after video_after') 0 (video_size chunks) (apart_from VideoStream codec key key' 0 chunks)
@@ -212,16 +207,14 @@ module _ (container : List ℕ) (reading : Reading) (header : Header) (applied :
   abbrev past' : SameFrom (video_size chunks) video video_after' × SameFrom (audio_size chunks) audio audio_after'
   past' = past_them container reading header applied chunks f video audio key' video_after' audio_after' contents' e'
 
-  by_audio : video_after ≡ video_after' → (r : Parting) → Told AudioStream (apart audio_after audio_after') 0 (audio_size chunks) r → Means r video_after audio_after video_after' audio_after'
-  by_audio same Same none = (same, not_parted audio_after audio_after' audio (audio_size chunks) none past.1 past'.1)
-  by_audio same (Apart stream byte chunk offset) (s, below, here) = rw s (same, parted audio_after audio_after' byte below here)
-  by_audio same (Refused refusal) told = told
+  by_audio : video_after ≡ video_after' → (r : Option Parting) → Told AudioStream (apart audio_after audio_after') 0 (audio_size chunks) r → Means (Ok r) video_after audio_after video_after' audio_after'
+  by_audio same None none = (same, not_parted audio_after audio_after' audio (audio_size chunks) none past.1 past'.1)
+  by_audio same (Some parting) (s, below, here) = rw s (same, parted audio_after audio_after' parting.byte below here)
 
-  by_video : (r other : Parting) → Told VideoStream (apart video_after video_after') 0 (video_size chunks) r → Told AudioStream (apart audio_after audio_after') 0 (audio_size chunks) other
-      → Means (or_else r other) video_after audio_after video_after' audio_after'
-  by_video Same other none told = by_audio (not_parted video_after video_after' video (video_size chunks) none past.0 past'.0) other told
-  by_video (Apart stream byte chunk offset) other (s, below, here) told = rw s (parted video_after video_after' byte below here)
-  by_video (Refused refusal) other none told = none
+  by_video : (r other : Option Parting) → Told VideoStream (apart video_after video_after') 0 (video_size chunks) r → Told AudioStream (apart audio_after audio_after') 0 (audio_size chunks) other
+      → Means (Ok (option_or r other)) video_after audio_after video_after' audio_after'
+  by_video None other none told = by_audio (not_parted video_after video_after' video (video_size chunks) none past.0 past'.0) other told
+  by_video (Some parting) other (s, below, here) told = rw s (parted video_after video_after' parting.byte below here)
 
   told_apart : Means (film_apart key key' (film_of container reading)) video_after audio_after video_after' audio_after'
   told_apart = rw f (by_video (apart_from VideoStream codec key key' 0 chunks) (apart_from AudioStream codec key key' 0 chunks) videos audios)
@@ -232,15 +225,15 @@ StreamsPartThere container reading key key' video audio video_after audio_after 
     by_film : (f : Film) → film_of container reading ≡ f → Means (film_apart key key' (film_of container reading)) video_after audio_after video_after' audio_after'
     by_film (film header applied chunks) f = told_apart container reading header applied chunks f key key' video audio video_after audio_after video_after' audio_after' contents contents' e e'
     by_film (refused refusal) f =
-        let q : extracted.Film contents ≡ extracted.Refused refusal = rw f at e.0 in
+        let q : Ok contents ≡ Err refusal = rw f at e.0 in
         let z : ◌≡◌ {A = ℕ} 0 1 = cc in
         absurd (omega arith)
 
 -- ---- the chunk that is named
 
-module _ (codec : Codec) (key key' : ℕ) (stream : Stream) (byte start offset : ℕ) where
+module _ (codec : Option ℕ) (key key' : ℕ) (stream : Stream) (byte start offset : ℕ) where
   module _ (here : Stream) where
-    named_from : (before chunks : List Chunk) → apart_from here codec key key' (size_of (part_in here) before) chunks ≡ Apart stream byte start offset → Holds (before ++ chunks) stream byte start offset
+    named_from : (before chunks : List Chunk) → apart_from here codec key key' (size_of (part_in here) before) chunks ≡ Some (record { stream = stream; byte = byte; chunk = start; offset = offset }) → Holds (before ++ chunks) stream byte start offset
     unfolding apart_from
     named_from before [] e = let z : ◌≡◌ {A = ℕ} 0 1 = cc in absurd (omega arith)
     named_from before (chunk ∷ chunks) e =
@@ -248,25 +241,26 @@ module _ (codec : Codec) (key key' : ℕ) (stream : Stream) (byte start offset :
         (λ q. rw (append_assoc before (chunk ∷ []) chunks) at (named_from (before ++ chunk ∷ []) chunks (rw (size_after here before chunk) q)))
       where
         by_test : (b : Bool) → ltb (apart_of here codec key key' chunk) (part_in here chunk.kind chunk.len) ≡ b
-            → cond b (Apart here (size_of (part_in here) before + apart_of here codec key key' chunk) chunk.start (apart_of here codec key key' chunk)) (apart_from here codec key key' (size_of (part_in here) before + part_in here chunk.kind chunk.len) chunks)
-            ≡ Apart stream byte start offset
-            → (apart_from here codec key key' (size_of (part_in here) before + part_in here chunk.kind chunk.len) chunks ≡ Apart stream byte start offset → Holds (before ++ chunk ∷ chunks) stream byte start offset)
+            → cond {A = Option Parting} b (Some (record { stream = here; byte = size_of (part_in here) before + apart_of here codec key key' chunk; chunk = chunk.start; offset = apart_of here codec key key' chunk })) (apart_from here codec key key' (size_of (part_in here) before + part_in here chunk.kind chunk.len) chunks)
+            ≡ Some (record { stream = stream; byte = byte; chunk = start; offset = offset })
+            → (apart_from here codec key key' (size_of (part_in here) before + part_in here chunk.kind chunk.len) chunks ≡ Some (record { stream = stream; byte = byte; chunk = start; offset = offset }) → Holds (before ++ chunk ∷ chunks) stream byte start offset)
             → Holds (before ++ chunk ∷ chunks) stream byte start offset
         by_test true t q later =
-            let s : here ≡ stream = cc in
-            let b : size_of (part_in here) before + apart_of here codec key key' chunk ≡ byte = cc in
-            let c : chunk.start ≡ start = cc in
-            let o : apart_of here codec key key' chunk ≡ offset = cc in
+            let same : ◌≡◌ {A = Parting} (record { stream = here; byte = size_of (part_in here) before + apart_of here codec key key' chunk; chunk = chunk.start; offset = apart_of here codec key key' chunk })
+            (record { stream = stream; byte = byte; chunk = start; offset = offset }) = cc in
+            let s : here ≡ stream = ap (λ (p : Parting). p.stream) same in
+            let b : size_of (part_in here) before + apart_of here codec key key' chunk ≡ byte = ap (λ (p : Parting). p.byte) same in
+            let c : chunk.start ≡ start = ap (λ (p : Parting). p.chunk) same in
+            let o : apart_of here codec key key' chunk ≡ offset = ap (λ (p : Parting). p.offset) same in
             let l = ltb-true (apart_of here codec key key' chunk) (part_in here chunk.kind chunk.len) t in
             rw (← s) (record { before = before; chunk = chunk; after = chunks; split = refl; starts = c; there = rw (← o) b; within = rw (← o) l })
         by_test false t q later = later q
 
-  by_stream : (chunks : List Chunk) (r : Parting) → apart_from VideoStream codec key key' 0 chunks ≡ r → or_else r (apart_from AudioStream codec key key' 0 chunks) ≡ Apart stream byte start offset
+  by_stream : (chunks : List Chunk) (r : Option Parting) → apart_from VideoStream codec key key' 0 chunks ≡ r → option_or r (apart_from AudioStream codec key key' 0 chunks) ≡ Some (record { stream = stream; byte = byte; chunk = start; offset = offset })
       → Holds chunks stream byte start offset
   unfolding size_of
-  by_stream chunks Same v e = named_from AudioStream [] chunks e
-  by_stream chunks (Apart stream' byte' start' offset') v e = named_from VideoStream [] chunks (v ∙ e)
-  by_stream chunks (Refused refusal) v e = let z : ◌≡◌ {A = ℕ} 0 1 = cc in absurd (omega arith)
+  by_stream chunks None v e = named_from AudioStream [] chunks e
+  by_stream chunks (Some parting) v e = named_from VideoStream [] chunks (v ∙ e)
 
 pub PartingNamesTheChunk : promised.PartingNamesTheChunk
 PartingNamesTheChunk codec key key' chunks stream byte start offset e = by_stream codec key key' stream byte start offset chunks (apart_from VideoStream codec key key' 0 chunks) refl e

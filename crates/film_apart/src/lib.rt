@@ -9,9 +9,8 @@ ghost use Rattle.film.specs.Films.{film_of};
 ghost use Rattle.film_apart.specs.Reasons.{why_same, why_number};
 ghost use Rattle.film_apart.specs.FilmsApart.{part_in, apart_from, chunks_apart, film_apart, stream_number, apart_reply};
 
-use chunk::{ChunkStep, Kind};
-use codec::Codec;
-use film::Surveyed;
+use chunk::Kind;
+use header::Header;
 use reading::{Applied, Reading};
 use refusal::Refusal;
 
@@ -38,20 +37,16 @@ pub enum Stream {
 // What two keys make of one film: the same streams, or streams that differ first at a byte. The byte is counted from the stream's first;
 // it stands in the chunk that starts at a byte of the container, at an offset of its payload.
 #[derive(Clone, Copy)]
-pub enum Parting {
-    Same,
-    Apart {
-        stream: Stream,
-        byte: usize,
-        chunk: usize,
-        offset: usize,
-    },
-    Refused(Refusal),
+pub struct Parting {
+    pub stream: Stream,
+    pub byte: usize,
+    pub chunk: usize,
+    pub offset: usize,
 }
 
 // The answer as C reads it. `stream` is 0 where the streams are the same. What has no meaning in it is 0.
 #[repr(C)]
-#[derive(Clone, Copy)]
+#[derive(Clone, Copy, Default)]
 pub struct ApartReply {
     pub refused_at: usize,
     pub byte: usize,
@@ -77,42 +72,32 @@ fn stream_apart(
     container: &[u8],
     place: usize,
     reading: Applied,
-    codec: Codec,
+    codec: Option<u32>,
     stream: Stream,
     key: u64,
     other: u64,
-) -> Parting
+) -> Option<Parting>
     ensures { result ≡ apart_from stream codec key other 0 (walk_from container.now reading place).chunks }
 {
     let mut at = place;
     let mut passed: usize = 0;
-    loop {
-        match chunk::chunk_at(container, at, reading) {
-            ChunkStep::Over => {
-                return Parting::Same;
-            }
-            ChunkStep::Found(chunk) => {
-                let kind = chunk.kind;
-                let part = part_in(stream, kind, chunk.len);
-                let mask = chunk_mask::mask_of(codec, kind, chunk.data_type);
-                let first = key_apart::payload_apart(mask, part, key, other);
-                if first < part {
-                    let byte = passed + first;
-                    return Parting::Apart {
-                        stream,
-                        byte,
-                        chunk: chunk.start,
-                        offset: first,
-                    };
-                }
-                passed += part;
-                at = chunk.next;
-            }
-            ChunkStep::Refused(_) => {
-                return Parting::Same;
-            }
+    while let Ok(Some(chunk)) = chunk::chunk_at(container, at, reading) {
+        let part = part_in(stream, chunk.kind, chunk.len);
+        let mask = chunk_mask::mask_of(codec, chunk.kind, chunk.data_type);
+        let first = key_apart::payload_apart(mask, part, key, other);
+        if first < part {
+            let byte = passed + first;
+            return Some(Parting {
+                stream,
+                byte,
+                chunk: chunk.start,
+                offset: first,
+            });
         }
+        passed += part;
+        at = chunk.next;
     }
+    None
 }
 
 // The first byte of both streams: of the video, or of the audio where no byte of the video differs.
@@ -120,48 +105,32 @@ fn chunks_apart(
     container: &[u8],
     place: usize,
     reading: Applied,
-    codec: Codec,
+    codec: Option<u32>,
     key: u64,
     other: u64,
-) -> Parting
+) -> Option<Parting>
     ensures { result ≡ chunks_apart codec key other (walk_from container.now reading place).chunks }
 {
-    let video = Stream::VideoStream;
-    let audio = Stream::AudioStream;
-    match stream_apart(container, place, reading, codec, video, key, other) {
-        Parting::Same => stream_apart(container, place, reading, codec, audio, key, other),
-        Parting::Apart {
-            stream,
-            byte,
-            chunk,
-            offset,
-        } => Parting::Apart {
-            stream,
-            byte,
-            chunk,
-            offset,
-        },
-        Parting::Refused(refusal) => Parting::Refused(refusal),
-    }
+    let first_in = |stream| stream_apart(container, place, reading, codec, stream, key, other);
+    first_in(Stream::VideoStream).or_else(|| first_in(Stream::AudioStream))
 }
 
 // Where the streams of a film first differ under two keys, or that they are the same, or why the film is refused.
-pub fn film_apart(container: &[u8], reading: Reading, key: u64, other: u64) -> Parting
+pub fn film_apart(
+    container: &[u8],
+    reading: Reading,
+    key: u64,
+    other: u64,
+) -> Result<Option<Parting>, Refusal>
     ensures { result ≡ film_apart key other (film_of container.now reading) }
 {
-    match film::survey(container, reading) {
-        Surveyed::Film {
-            header,
-            reading: applied,
-            count: _,
-            video: _,
-            audio: _,
-        } => {
-            let codec = header.audio_codec;
-            chunks_apart(container, header.start, applied, codec, key, other)
-        }
-        Surveyed::Refused(refusal) => Parting::Refused(refusal),
-    }
+    let survey = film::survey(container, reading)?;
+    let Header {
+        start,
+        audio_codec,
+        ..
+    } = survey.header;
+    Ok(chunks_apart(container, start, survey.reading, audio_codec, key, other))
 }
 
 // Why two keys give the same streams of a film that shows these bits of a key, or that they do not.
@@ -180,7 +149,7 @@ pub fn why_same(bits: u64, key: u64, other: u64) -> WhySame
     WhySame::NotShown
 }
 
-// The number of a reason: 0 where the streams differ.
+// The number of a reason, as C reads it: 0 where the streams differ.
 pub fn why_number(why: WhySame) -> u8
     ensures { result ≡ why_number why }
 {
@@ -192,7 +161,7 @@ pub fn why_number(why: WhySame) -> u8
     }
 }
 
-// The number of a stream: 1 for the video, 2 for the audio.
+// The number of a stream, as C reads it: 1 for the video, 2 for the audio.
 fn stream_number(stream: Stream) -> u8
     ensures { result ≡ stream_number stream }
 {
@@ -203,45 +172,23 @@ fn stream_number(stream: Stream) -> u8
 }
 
 // An answer as C reads it.
-pub fn apart_reply(answer: Parting) -> ApartReply
+pub fn apart_reply(answer: Result<Option<Parting>, Refusal>) -> ApartReply
     ensures { result ≡ apart_reply answer }
 {
     match answer {
-        Parting::Same => ApartReply {
-            refused_at: 0,
-            byte: 0,
-            chunk: 0,
-            offset: 0,
-            number: 0,
-            unknown_type: 0,
-            stream: 0,
+        Ok(None) => ApartReply::default(),
+        Ok(Some(parting)) => ApartReply {
+            byte: parting.byte,
+            chunk: parting.chunk,
+            offset: parting.offset,
+            stream: stream_number(parting.stream),
+            ..ApartReply::default()
         },
-        Parting::Apart {
-            stream,
-            byte,
-            chunk,
-            offset,
-        } => ApartReply {
-            refused_at: 0,
-            byte,
-            chunk,
-            offset,
-            number: 0,
-            unknown_type: 0,
-            stream: stream_number(stream),
+        Err(refusal) => ApartReply {
+            refused_at: refusal.place,
+            number: refusal::number_of(refusal.cause),
+            unknown_type: refusal::beside_of(refusal.cause).unknown_type,
+            ..ApartReply::default()
         },
-        Parting::Refused(refusal) => {
-            let cause = refusal.cause;
-            let beside = refusal::beside_of(cause);
-            ApartReply {
-                refused_at: refusal.place,
-                byte: 0,
-                chunk: 0,
-                offset: 0,
-                number: refusal::number_of(cause),
-                unknown_type: beside.unknown_type,
-                stream: 0,
-            }
-        }
     }
 }

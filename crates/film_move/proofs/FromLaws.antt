@@ -1,4 +1,5 @@
 -- A film of the builder as request 1's: all but its chunks, and these between its header and its ends. Assumes nothing.
+use Rattle.std.specs.Prelude.{Option, Some, None, Result, Ok, Err}
 use Prim.Native.Nat.{ℕ, ◌+◌, ◌-◌, ◌*◌, ◌%◌, ◌≤◌, ◌<◌}
 use mathlib.Core.Path.{◌≡◌, refl, sym, ap, ap₂, ◌∙◌, subst}
 use mathlib.Core.List.{List, [], ◌++◌, append_assoc}
@@ -14,10 +15,6 @@ use Rattle.laws.proofs.PutLaws.{put_then}
 use Rattle.part.specs.Parts.{part_at}
 use Rattle.refusal.specs.declared.Cause.TheVariants.{TooLong, MarkedPayload, CodecAlone}
 use Rattle.refusal.specs.declared.Refusal.{Refusal}
-use Rattle.codec.specs.declared.Codec.{Codec}
-use Rattle.unmasking.specs.declared.Key.TheVariants.{Absent}
-use Rattle.lent.specs.declared.Written.{Written}
-use Rattle.lent.specs.declared.Written.TheVariants.{Size, Refused}
 use Rattle.lent.specs.Written.{written_in, left_by}
 use Rattle.write_plan.specs.declared.Packing.{Packing}
 use Rattle.write_plan.specs.Payloads.{payloads_of}
@@ -35,7 +32,6 @@ use Rattle.moved_film.proofs.FilmLaws.{header, ends, film_laid, frame_laid, head
 use Rattle.moved_film.proofs.FindLaws.{rest_part}
 use Rattle.moved_film.proofs.FrameLaws.{none_either}
 use Rattle.old_film.specs.declared.OldFilm.{OldFilm}
-use Rattle.old_film.specs.declared.Found.TheVariants.{Film, Foreign}
 use Rattle.old_film.specs.Finding.{Parts, parts_of, is_old, film_by, found_in}
 use Rattle.film_move.specs.Moving.{moved_from}
 use Rattle.film_move.specs.FromOld.{planned_as, packing_of, cause_of, from_old, FromOld}
@@ -80,9 +76,9 @@ stream_few form n = let l = size_few form (n % 0x10000) (omega arith) in omega (
 
 -- ---- the film that is written
 
-module _ (name : List ℕ) (packing : Packing) (k : packing.key ≡ Absent) where
+module _ (name : List ℕ) (packing : Packing) (k : packing.key ≡ None) where
   -- where its header ends, by the size of what is written without a payload: its ends begin there
-  pub start_is : (n size : ℕ) → planned_of name [] [] packing ≡ Size n → size ≡ length (ends packing) → (size ≤ n) × (n - size ≡ length (header name packing))
+  pub start_is : (n size : ℕ) → planned_of name [] [] packing ≡ Ok n → size ≡ length (ends packing) → (size ≤ n) × (n - size ≡ length (header name packing))
   start_is n size e s = let a = accepted name [] [] packing n e in (omega (arith, a.sized, header_size_lem name packing k), omega (arith, a.sized, header_size_lem name packing k))
 
   module _ (video audio : List ℕ) where
@@ -108,39 +104,39 @@ module _ (name : List ℕ) (packing : Packing) (k : packing.key ≡ Absent) wher
     abbrev marked : Bool
     marked = any_marked (payloads_of video) || any_marked (payloads_of audio)
 
-    pub plan_sized : (n : ℕ) (t : Bool) → planned_of name [] [] packing ≡ Size n → t ≡ marked → planned_as (n + sizes) t ≡ planned_of name video audio packing
+    pub plan_sized : (n : ℕ) (t : Bool) → planned_of name [] [] packing ≡ Ok n → t ≡ marked → planned_as (n + sizes) t ≡ planned_of name video audio packing
     unfolding planned_of
     plan_sized n t e m =
         let a = accepted name [] [] packing n e in
         let s : n + sizes ≡ whole = omega (arith, a.sized, whole_size) in
         rw a.given (ap₂ planned_as s m)
 
-    first_refused : (t u w x : Bool) (n : ℕ) (rest : Written) (refusal : Refusal) → (u ≡ true → x ≡ true) → w ≡ false
-        → cond t (refused_by CodecAlone) (cond u (refused_by TooLong) (cond w (refused_by MarkedPayload) (Size n))) ≡ Refused refusal
-        → Refused refusal ≡ cond t (refused_by CodecAlone) (cond x (refused_by TooLong) rest)
+    first_refused : (t u w x : Bool) (n : ℕ) (rest : Result ℕ Refusal) (refusal : Refusal) → (u ≡ true → x ≡ true) → w ≡ false
+        → cond t (refused_by CodecAlone) (cond u (refused_by TooLong) (cond w (refused_by MarkedPayload) (Ok n))) ≡ Err refusal
+        → Err refusal ≡ cond t (refused_by CodecAlone) (cond x (refused_by TooLong) rest)
     first_refused true u w x n rest refusal h k e = sym e
     first_refused false true w x n rest refusal h k e = rw (h refl) (sym e)
     first_refused false false true x n rest refusal h k e = let z : ◌≡◌ {A = ℕ} 0 1 = cc in absurd (omega arith)
     first_refused false false false x n rest refusal h k e = let z : ◌≡◌ {A = ℕ} 0 1 = cc in absurd (omega arith)
 
-    pub plan_refused : (refusal : Refusal) → planned_of name [] [] packing ≡ Refused refusal → Refused refusal ≡ planned_of name video audio packing
+    pub plan_refused : (refusal : Refusal) → planned_of name [] [] packing ≡ Err refusal → Err refusal ≡ planned_of name video audio packing
     unfolding planned_of
     plan_refused refusal e =
         first_refused alone (ltb 0x40000000 frame) (any_marked (payloads_of []) || any_marked (payloads_of [])) (ltb 0x40000000 whole) frame
-        (cond marked (refused_by MarkedPayload) (Size whole)) refusal
+        (cond marked (refused_by MarkedPayload) (Ok whole)) refusal
         (λ h. lt-ltb 0x40000000 whole (omega (arith, ltb-true 0x40000000 frame h, whole_size)))
         (rw none_marked) e
 
     -- ---- what is put
 
     module _ (out out₁ : List ℕ) (room : whole ≤ length out) where
-      pub frame-put : (n : ℕ) (r : Written) → planned_of name [] [] packing ≡ Size n → Writing name [] [] packing out r out₁ → out₁ ≡ sets out 0 (header name packing ++ ends packing)
+      pub frame-put : (n : ℕ) (r : Result ℕ Refusal) → planned_of name [] [] packing ≡ Ok n → Writing name [] [] packing out r out₁ → out₁ ≡ sets out 0 (header name packing ++ ends packing)
       frame-put n r e w =
           let a = accepted name [] [] packing n e in
           let fits : n ≤ length out = omega (arith, a.sized, whole_size) in
           let w' : WritingOf name [] [] packing out r out₁ = rw (none_either packing.audio) at w in
-          let same : r ≡ Size n = w'.0 ∙ ap (written_in (length out)) e ∙ rw (le-ltb (length out) n fits) in
-          w'.1 ∙ ap (λ (t : Written). left_by t out (film_bytes name [] [] packing)) same ∙ ap (sets out 0) (frame_laid name packing k)
+          let same : r ≡ Ok n = w'.0 ∙ ap (written_in (length out)) e ∙ rw (le-ltb (length out) n fits) in
+          w'.1 ∙ ap (λ (t : Result ℕ Refusal). left_by t out (film_bytes name [] [] packing)) same ∙ ap (sets out 0) (frame_laid name packing k)
 
       module _ (framed : out₁ ≡ sets out 0 (header name packing ++ ends packing)) (start : ℕ) (s : start ≡ length (header name packing)) (moved : List ℕ) (m : moved ≡ chunks_of New video audio) where
         laid_length : whole ≡ length (header name packing) + (length moved + length (ends packing))
@@ -163,20 +159,20 @@ module _ (name : List ℕ) (packing : Packing) (k : packing.key ≡ Absent) wher
 
 -- ---- the parts of a film that was found
 
-film_told : (t : Bool) (film other : OldFilm) → cond t (Film other) Foreign ≡ Film film → (t ≡ true) × (film ≡ other)
+film_told : (t : Bool) (film other : OldFilm) → cond t (Some other) None ≡ Some film → (t ≡ true) × (film ≡ other)
 film_told true film other e = (refl, cc)
 film_told false film other e = let z : ◌≡◌ {A = ℕ} 0 1 = cc in absurd (omega arith)
 
-none_told : (t : Bool) (other : OldFilm) → cond t (Film other) Foreign ≡ Foreign → t ≡ false
+none_told : (t : Bool) (other : OldFilm) → cond t (Some other) None ≡ None → t ≡ false
 none_told true other e = let z : ◌≡◌ {A = ℕ} 0 1 = cc in absurd (omega arith)
 none_told false other e = refl
 
 module _ (c : List ℕ) where
-  pub is_film_lem : (film : OldFilm) → found_in c ≡ Film film → (is_old c ≡ true) × (film ≡ film_by (parts_of c))
+  pub is_film_lem : (film : OldFilm) → found_in c ≡ Some film → (is_old c ≡ true) × (film ≡ film_by (parts_of c))
   unfolding found_in
   is_film_lem film e = film_told (is_old c) film (film_by (parts_of c)) e
 
-  pub is_foreign : found_in c ≡ Foreign → is_old c ≡ false
+  pub is_foreign : found_in c ≡ None → is_old c ≡ false
   unfolding found_in
   is_foreign e = none_told (is_old c) (film_by (parts_of c)) e
 
@@ -223,18 +219,18 @@ module _ (c : List ℕ) where
     -- ---- what is planned, by what is planned without a payload
 
     module _ (packing : Packing) where
-      pub plan-named : (name : List ℕ) (r : Written) → name ≡ part_at c 96 film.name → r ≡ planned_of name [] (audio_in packing []) packing → planned_of P.name [] [] packing ≡ r
+      pub plan-named : (name : List ℕ) (r : Result ℕ Refusal) → name ≡ part_at c 96 film.name → r ≡ planned_of name [] (audio_in packing []) packing → planned_of P.name [] [] packing ≡ r
       plan-named name r n f = sym (f ∙ ap₂ (λ (l a : List ℕ). planned_of l [] a packing) (n ∙ name_part) (none_either packing.audio))
 
-      pub plan-moved : packing.key ≡ Absent → (frame : ℕ) → planned_of P.name [] [] packing ≡ Size frame
+      pub plan-moved : packing.key ≡ None → (frame : ℕ) → planned_of P.name [] [] packing ≡ Ok frame
           → planned_as (frame + (stream_size New film.turns.video + stream_size New film.turns.audio)) film.turns.marked
           ≡ planned_of P.name P.read.video P.read.audio packing
       plan-moved k frame f = rw (video_is, audio_is) (plan_sized P.name packing k P.read.video P.read.audio frame film.turns.marked f marked_is)
 
     -- ---- the film moved: what is written without a payload, its turns from the end of the header on, and its ends after them
 
-    module _ (packing : Packing) (k : packing.key ≡ Absent) (n : ℕ) (f : planned_of P.name [] [] packing ≡ Size n) (out : List ℕ)
-        (room : length (film_bytes P.name P.read.video P.read.audio packing) ≤ length out) {name : List ℕ} (g : name ≡ part_at c 96 film.name) {r : Written} {out₁ : List ℕ}
+    module _ (packing : Packing) (k : packing.key ≡ None) (n : ℕ) (f : planned_of P.name [] [] packing ≡ Ok n) (out : List ℕ)
+        (room : length (film_bytes P.name P.read.video P.read.audio packing) ≤ length out) {name : List ℕ} (g : name ≡ part_at c 96 film.name) {r : Result ℕ Refusal} {out₁ : List ℕ}
         (w : Writing name [] [] packing out r out₁) {size : ℕ} (s : size ≡ length (bytes_of (end_blocks packing))) {left : ℕ} (l : left ≡ length c - film.start) {chunks : List ℕ}
         (h : chunks ≡ part_at c film.start left) where
       named : Writing P.name [] [] packing out r out₁
@@ -264,16 +260,16 @@ module _ (c : List ℕ) where
 
   -- ---- what is answered
 
-  module _ (mpeg-codec audio-codec : Codec) (out : List ℕ) (r : Written) where
+  module _ (mpeg-codec audio-codec : Option ℕ) (out : List ℕ) (r : Result ℕ Refusal) where
     pub from_long : 0x40000000 < length c → r ≡ refused_by TooLong → FromOld c mpeg-codec audio-codec out r out
     unfolding from_old
     from_long h e = rw (e, lt-ltb 0x40000000 (length c) h) (refl, refl)
 
-    pub from_foreign : length c ≤ 0x40000000 → found_in c ≡ Foreign → r ≡ refused_by (cause_of c) → FromOld c mpeg-codec audio-codec out r out
+    pub from_foreign : length c ≤ 0x40000000 → found_in c ≡ None → r ≡ refused_by (cause_of c) → FromOld c mpeg-codec audio-codec out r out
     unfolding from_old
     from_foreign h f e = rw (e, le-ltb 0x40000000 (length c) h, is_foreign f) (refl, refl)
 
-    pub from_film : (film : OldFilm) (packing : Packing) (out' : List ℕ) → length c ≤ 0x40000000 → found_in c ≡ Film film → packing ≡ packing_of film.audio mpeg-codec audio-codec
+    pub from_film : (film : OldFilm) (packing : Packing) (out' : List ℕ) → length c ≤ 0x40000000 → found_in c ≡ Some film → packing ≡ packing_of film.audio mpeg-codec audio-codec
         → WritingOf P.name P.read.video P.read.audio packing out r out' → FromOld c mpeg-codec audio-codec out r out'
     unfolding from_old
     from_film film packing out' h f e w =

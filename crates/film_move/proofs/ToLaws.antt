@@ -1,4 +1,7 @@
 -- A film that the move writes as the builder's: block by block, its chunks, and its ends. Assumes nothing.
+use Rattle.std.specs.Prelude.{Some, None, Result, Ok, Err}
+use Rattle.header.specs.declared.Header.{Header}
+use Rattle.refusal.specs.declared.Refusal.{Refusal}
 use Prim.Native.Nat.{ℕ, ◌+◌, ◌-◌, ◌≤◌, ◌<◌}
 use mathlib.Core.Path.{◌≡◌, refl, sym, ap, ap₂, ◌∙◌, subst}
 use mathlib.Core.List.{List, [], ◌++◌, append_assoc}
@@ -13,11 +16,7 @@ use Rattle.part.specs.Parts.{part_at}
 use Rattle.signature.specs.Signatures.{CRID, SFV, same_bytes}
 use Rattle.refusal.specs.declared.Cause.TheVariants.{TooLong}
 use Rattle.refusal.specs.declared.Cause.TheVariants as cause
-use Rattle.lent.specs.declared.Written.{Written}
-use Rattle.lent.specs.declared.Written.TheVariants.{Size, Refused}
 use Rattle.utf8.specs.Utf8.{is_utf8}
-use Rattle.header.specs.declared.HeaderAnswer.{HeaderAnswer}
-use Rattle.header.specs.declared.HeaderAnswer.TheVariants as header
 use Rattle.write_blocks.specs.Blocks.{block_of}
 use Rattle.write_blocks.specs.Tables.{name_table}
 use Rattle.write_plan.specs.Films.{bytes_of, header_blocks, film_bytes}
@@ -35,7 +34,6 @@ use Rattle.old_film.specs.Films.{audio_blocks, old_ends, old_bytes}
 use Rattle.old_film.specs.Finding.{name_size, audios_of}
 use Rattle.old_film.proofs.FindLaws.{name_block_length, video_block_length, turns_same_old}
 use Rattle.moved_film.specs.declared.NewFilm.{NewFilm}
-use Rattle.moved_film.specs.declared.Found.TheVariants.{Film, Foreign}
 use Rattle.moved_film.specs.Finding.{Parts, answer_in, header_by, parts_by, parts_of, rebuilt, is_new_by, is_new, film_by, found_in}
 use Rattle.moved_film.proofs.FindLaws.{rest_part}
 use Rattle.moved_film.proofs.HeaderLaws as read
@@ -79,32 +77,32 @@ module _ (name video : List ℕ) (audio : Bool) (sound : List ℕ) (silent : aud
 
 -- ---- a film that was found
 
-film_told : (t : Bool) (film other : NewFilm) → cond t (Film other) Foreign ≡ Film film → (t ≡ true) × (film ≡ other)
+film_told : (t : Bool) (film other : NewFilm) → cond t (Some other) None ≡ Some film → (t ≡ true) × (film ≡ other)
 film_told true film other e = (refl, cc)
 film_told false film other e = let z : ◌≡◌ {A = ℕ} 0 1 = cc in absurd (omega arith)
 
-none_told : (t : Bool) (other : NewFilm) → cond t (Film other) Foreign ≡ Foreign → t ≡ false
+none_told : (t : Bool) (other : NewFilm) → cond t (Some other) None ≡ None → t ≡ false
 none_told true other e = let z : ◌≡◌ {A = ℕ} 0 1 = cc in absurd (omega arith)
 none_told false other e = refl
 
-by_answer : (c : List ℕ) (answer : HeaderAnswer) → is_new_by c answer ≡ true
+by_answer : (c : List ℕ) (answer : Result Header Refusal) → is_new_by c answer ≡ true
     → (is_utf8 (parts_by c (header_by answer)).name ≡ true) × (c ≡ rebuilt (parts_by c (header_by answer)))
-by_answer c (header.Read head) e =
+by_answer c (Ok head) e =
     let parts = parts_by c head in
     let b = both_true (is_utf8 parts.name) (same_bytes c (rebuilt parts)) e in
     (b.0, same_true c (rebuilt parts) b.1)
-by_answer c (header.Refused refusal) e = let z : ◌≡◌ {A = ℕ} 0 1 = cc in absurd (omega arith)
+by_answer c (Err refusal) e = let z : ◌≡◌ {A = ℕ} 0 1 = cc in absurd (omega arith)
 
 named_at : (name header behind rest : List ℕ) → header ≡ block_of CRID (name_table name) ++ behind → part_at (header ++ rest) 86 (length name) ≡ name
 named_at name header behind rest e =
     ap (λ (l : List ℕ). part_at l 86 (length name)) (ap (λ (l : List ℕ). l ++ rest) e ∙ append_assoc (block_of CRID (name_table name)) behind rest) ∙ part_held name (behind ++ rest)
 
 module _ (c : List ℕ) where
-  pub is_film_lem : (film : NewFilm) → found_in c ≡ Film film → (is_new c ≡ true) × (film ≡ film_by (parts_of c))
+  pub is_film_lem : (film : NewFilm) → found_in c ≡ Some film → (is_new c ≡ true) × (film ≡ film_by (parts_of c))
   unfolding found_in
   is_film_lem film e = film_told (is_new c) film (film_by (parts_of c)) e
 
-  is_foreign : found_in c ≡ Foreign → is_new c ≡ false
+  is_foreign : found_in c ≡ None → is_new c ≡ false
   unfolding found_in
   is_foreign e = none_told (is_new c) (film_by (parts_of c)) e
 
@@ -166,7 +164,7 @@ module _ (c : List ℕ) where
       size_is n h = h ∙ ap size_by e ∙ sym (old_length P.name P.read.video P.packing.audio P.read.audio silent)
 
       -- where an output has room for a size that is answered, it has room for the film
-      pub fits-is : (n : ℕ) → n ≡ size_by film → (size : ℕ) {room : ℕ} → (Size n ≡ Size size) × (size ≤ room) → length (old_of P) ≤ room
+      pub fits-is : (n : ℕ) → n ≡ size_by film → (size : ℕ) {room : ℕ} → (◌≡◌ {A = Result ℕ Refusal} (Ok n) (Ok size)) × (size ≤ room) → length (old_of P) ≤ room
       fits-is n h size so = let s : n ≡ size = cc so.0 in omega (arith, s, so.1, size_is n h)
 
       -- ---- the film moved
@@ -235,15 +233,15 @@ module _ (c : List ℕ) where
   -- ---- what is answered
 
   -- what is answered for a film, by its size
-  pub planned_is : length c ≤ 0x40000000 → is_new c ≡ true → (n : ℕ) → n ≡ length (old_of P) → Size n ≡ to_old c
+  pub planned_is : length c ≤ 0x40000000 → is_new c ≡ true → (n : ℕ) → n ≡ length (old_of P) → Ok n ≡ to_old c
   unfolding to_old
-  planned_is h t n e = rw (le-ltb 0x40000000 (length c) h, t) (ap Size e)
+  planned_is h t n e = rw (le-ltb 0x40000000 (length c) h, t) (ap Ok e)
 
-  module _ (out : List ℕ) (r : Written) where
+  module _ (out : List ℕ) (r : Result ℕ Refusal) where
     pub to_long : 0x40000000 < length c → r ≡ refused_by TooLong → ToOld c out r out
     unfolding to_old
     to_long h e = rw (e, lt-ltb 0x40000000 (length c) h) (refl, refl)
 
-    pub to_foreign : length c ≤ 0x40000000 → found_in c ≡ Foreign → r ≡ refused_by cause.Foreign → ToOld c out r out
+    pub to_foreign : length c ≤ 0x40000000 → found_in c ≡ None → r ≡ refused_by cause.Foreign → ToOld c out r out
     unfolding to_old
     to_foreign h f e = rw (e, le-ltb 0x40000000 (length c) h, is_foreign f) (refl, refl)

@@ -12,10 +12,9 @@ ghost use Rattle.old_film.specs.Finding.{name_size, audios_of};
 ghost use Rattle.moved_film.specs.Finding.{parts_of, is_new, film_by};
 ghost use Rattle.film_move.specs.ToOld.{old_of, ToOld};
 
-use crate::putting::{move_turns, put, put_zeros, refused};
-use lent::Written;
-use moved_film::{Found, NewFilm};
-use refusal::{Cause, LONGEST};
+use crate::putting::{move_turns, put, put_zeros};
+use moved_film::NewFilm;
+use refusal::{Cause, LONGEST, Refusal};
 use turns::Form;
 
 // Puts the builder's first block, with a film's name.
@@ -94,30 +93,26 @@ fn put_back(out: &mut [u8], container: &[u8], film: NewFilm)
 }
 
 // Moves a film that the move writes back to the builder's container.
-fn move_back(container: &[u8], film: NewFilm, out: &mut [u8]) -> Written
+fn move_back(container: &[u8], film: NewFilm, out: &mut [u8]) -> Result<usize, Refusal>
     requires { (length container.now ≤ 0x40000000) × (is_new container.now ≡ true) × (film ≡ film_by (parts_of container.now)) }
     ensures { ToOld container.now out.old result out.new }
 {
     let size = old_size(film);
-    match lent::written_in(out.len(), Written::Size(size)) {
-        Written::Size(size) => {
-            put_back(out, container, film);
-            Written::Size(size)
-        }
-        Written::Refused(refusal) => Written::Refused(refusal),
-    }
+    let size = lent::written_in(out.len(), Ok(size))?;
+    put_back(out, container, film);
+    Ok(size)
 }
 
 // Moves a film from request 1's container, where the move writes it, to the old builder's, and answers its size.
 // Bytes past it stay; a refusal leaves the output as it was.
-pub fn to_old(container: &[u8], out: &mut [u8]) -> Written
+pub fn to_old(container: &[u8], out: &mut [u8]) -> Result<usize, Refusal>
     ensures { ToOld container.now out.old result out.new }
 {
     if LONGEST < container.len() {
-        return refused(Cause::TooLong);
+        return refusal::refused(Cause::TooLong, 0);
     }
     match moved_film::find(container) {
-        Found::Film(film) => move_back(container, film, out),
-        Found::Foreign => refused(Cause::Foreign),
+        Some(film) => move_back(container, film, out),
+        None => refusal::refused(Cause::Foreign, 0),
     }
 }

@@ -2,16 +2,13 @@
 ghost use Rattle.std.specs.Prelude.{◌≡◌, ◌+◌, ◌≤◌, length};
 ghost use Rattle.laws.specs.Outputs.{Put};
 ghost use Rattle.word.specs.Bytes.{zeros};
-ghost use Rattle.write_plan.specs.Planning.{refused_by};
 ghost use Rattle.turns.specs.Chunks.{chunk_of};
 ghost use Rattle.turns.specs.Turns.{next_of};
 ghost use Rattle.film_move.specs.Moving.{moved_from};
 
-use lent::Written;
-use refusal::{Cause, Refusal};
 use turns::{Form, Track};
 
-// Puts bytes.
+// Puts bytes. A twin of `write`'s, as `put_zeros` is: a public function has no `requires` (docs/CONTRACTS.md).
 pub(crate) fn put(out: &mut [u8], at: usize, bytes: &[u8]) -> usize
     requires { at + length bytes.now ≤ length out.old }
     ensures { Put bytes.now out.old at out.new result }
@@ -68,7 +65,7 @@ pub(crate) fn put_next(
     put_chunk(out, at, form, track, from, payload)
 }
 
-// Puts the turns that bytes begin with in one container as those of the other.
+// Puts the turns that bytes begin with in one container as those of the other. No `for`, as in `turns::read_turns`.
 pub(crate) fn move_turns(
     out: &mut [u8],
     start: usize,
@@ -85,7 +82,7 @@ pub(crate) fn move_turns(
     let mut from = 0;
     let mut seen = true;
     let mut heard = audio;
-    while turns::either(seen, heard) {
+    while seen || heard {
         let turn = turns::turn_in(&bytes[place..], old, from, seen, heard);
         let v = turn.video;
         let a = turn.audio;
@@ -101,11 +98,4 @@ pub(crate) fn move_turns(
         from += 0x10000;
     }
     at
-}
-
-// A refusal, at place 0.
-pub(crate) fn refused(cause: Cause) -> Written
-    ensures { result ≡ refused_by cause }
-{
-    Written::Refused(Refusal { cause, place: 0 })
 }

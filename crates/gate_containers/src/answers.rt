@@ -1,11 +1,10 @@
 // The lines that are written: what our functions answer on a container, extracted or listed.
-use codec::{AudioKind, Codec, VideoKind};
-use extract::{Contents, Extracted};
+use codec::{AudioKind, VideoKind};
+use extract::Contents;
 use film_name::Name;
 use list::{ChunkRecord, Plan};
 use print_line::Line;
 use reading::{Reading, ReadingBytes};
-use unmasking::Key;
 
 // Writes a refusal's number and place, and the type where it is one that is unknown.
 fn write_refused(number: u8, place: usize, unknown_type: u8) {
@@ -22,7 +21,7 @@ fn write_refused(number: u8, place: usize, unknown_type: u8) {
 }
 
 // A line with a codec's number after it, or a dash where there is none.
-fn with_codec(line: Line, codec: Codec) -> Line {
+fn with_codec(line: Line, codec: Option<u32>) -> Line {
     if codec::presence_of(codec) == 0 {
         return line.word(b"-");
     }
@@ -38,7 +37,7 @@ fn write_stream(line: Line, size: usize, output: &[u8]) {
 }
 
 // Writes the name: a part of the container, or the fallback.
-fn write_name<'a>(container: &'a [u8], fallback: &'a [u8], name: Name) {
+fn write_name<'a>(container: &'a [u8], fallback: &'a [u8], name: Option<Name>) {
     print_line::empty()
         .word(b"name ")
         .hex_bytes(film_name::name_of(container, fallback, name))
@@ -72,17 +71,22 @@ fn write_audio(contents: Contents, output: &[u8]) {
 }
 
 // Writes the answer on an extraction.
-pub(crate) fn write_film<'a>(container: &'a [u8], reading: Reading, key: Key, fallback: &'a [u8]) {
+pub(crate) fn write_film<'a>(
+    container: &'a [u8],
+    reading: Reading,
+    key: Option<u64>,
+    fallback: &'a [u8],
+) {
     let mut video = io::buffer();
     let mut audio = io::buffer();
     match extract::extract(container, reading, key, &mut video, &mut audio) {
-        Extracted::Film(contents) => {
+        Ok(contents) => {
             let name = contents.name;
             write_name(container, fallback, name);
             write_video(contents, &video);
             write_audio(contents, &audio);
         }
-        Extracted::Refused(refusal) => {
+        Err(refusal) => {
             let cause = refusal.cause;
             let beside = refusal::beside_of(cause);
             write_refused(
@@ -117,12 +121,10 @@ fn write_record(made: ChunkRecord) {
 fn write_records(container: &[u8], plan: Plan) {
     let reading = plan.reading;
     let mut place = plan.start;
-    let mut left = plan.records;
-    while 0 < left {
+    for _ in 0..plan.records {
         let step = list::record_at(container, place, reading);
         write_record(step.made);
         place = step.next;
-        left -= 1;
     }
 }
 

@@ -2,10 +2,6 @@
 // output. README.md beside this crate has the format.
 #![tactic(auto)]
 
-ghost use Rattle.std.specs.Prelude.{◌<◌};
-
-use descriptors::{STDIN_FILENO, STDOUT_FILENO};
-use lent::Written;
 use reading::TableMode;
 use refusal::{Cause, Refusal};
 
@@ -31,68 +27,34 @@ fn write_refusal(refusal: Refusal) {
 fn write_answer(table: &[u8], mode: TableMode) {
     let mut out = [0u8; ROOM];
     match table_csv::write_csv(table, 0, mode, &mut out) {
-        Written::Size(size) => print_line::empty()
+        Ok(size) => print_line::empty()
             .word(b"csv ")
             .hex_bytes(part::part_at(&out, 0, size))
             .end(),
-        Written::Refused(refusal) => write_refusal(refusal),
+        Err(refusal) => write_refusal(refusal),
     }
 }
 
 // Writes the answer on a table by its hex digits, and answers whether they are a table's.
 fn replay_table(digits: &[u8], mode: TableMode) -> bool {
-    if !gate_fields::is_hex(digits, MOST_TABLE) {
-        return false;
-    }
     let mut space = [0u8; MOST_TABLE];
-    let size = gate_fields::decode(digits, &mut space);
-    write_answer(&space[..size], mode);
+    let Some(table) = gate_fields::bytes_of(digits, &mut space) else {
+        return false;
+    };
+    write_answer(table, mode);
     true
 }
 
 // Writes the answer on the table of a line, and answers whether it is one.
 fn replay_line_of(line: &[u8]) -> bool {
+    let digits = gate_fields::rest_from(line, 2);
     if gate_fields::is_marked(line, b't') {
-        return replay_table(gate_fields::rest_from(line, 2), TableMode::Original);
+        return replay_table(digits, TableMode::Original);
     }
-    if gate_fields::is_marked(line, b'z') {
-        return replay_table(gate_fields::rest_from(line, 2), TableMode::ZeroColumns);
-    }
-    false
+    gate_fields::is_marked(line, b'z') && replay_table(digits, TableMode::ZeroColumns)
 }
 
-// Writes the answers on each table of a list, up to the first line that is none, and answers whether all of it was a list.
-fn replay(list: &[u8]) -> bool {
-    if !gate_fields::ends_in_line(list) {
-        return false;
-    }
-    let mut at = 0;
-    while at < list.len() {
-        let next = gate_fields::next_line(list, at);
-        let end = next - 1;
-        if !replay_line_of(&list[at..end]) {
-            return false;
-        }
-        at = next;
-    }
-    true
-}
-
-// Whether standard input holds more than was read.
-fn more_comes() -> bool {
-    let mut byte = [0u8; 1];
-    0 < io::read_full(STDIN_FILENO, &mut byte)
-}
-
+// Writes the answers on each table of the list, up to the first line that is none.
 fn main() {
-    let mut list = io::large_buffer();
-    let n = io::read_full(STDIN_FILENO, &mut list);
-    if more_comes() {
-        io::write_all(STDOUT_FILENO, b"stdin has more than 65536 bytes\n");
-        return;
-    }
-    let is_list = replay(&list[..n]);
-    if !is_list {
-        io::write_all(STDOUT_FILENO, b"stdin is not a list of tables\n");
-    }
+    gate_fields::replay_whole(b"stdin is not a list of tables\n", replay_line_of);
 }

@@ -1,3 +1,2 @@
-pub mod DigitLaws
 pub mod StepLaws
 pub mod OneAnswer

@@ -1,4 +1,5 @@
 -- No second answer meets a contract of this crate: what a caller learns makes two results one. Assumes nothing.
+-- Two functions have no line: what `takes_lines` answers rests on a closure, and `bytes_of` does not say where its bytes stand.
 use mathlib.Core.Path.{◌≡◌}
 use Rattle.laws.proofs.OneAnswer.{no_second_answer}
 use Rattle.part.proofs.OneAnswer.{SamePart, one_part}
@@ -11,7 +12,7 @@ use Rattle.gate_fields.proofs.is_hex.Reads as is-hex
 use Rattle.gate_fields.proofs.decode.Reads as decode
 use Rattle.gate_fields.proofs.number_of.Reads as number_of_lem
 use Rattle.gate_fields.proofs.after_field.Reads as after-field
-use Rattle.gate_fields.proofs.number_at.Reads as number_at
+use Rattle.gate_fields.proofs.number_in.Reads as number_in
 
 pub next_line_once : (κs : _) (args : _) (r r' : _) (exit exit' : _) → next-line.Learnt κs args r exit → next-line.Learnt κs args r' exit' → r ≡ r'
 next_line_once κs args r r' exit exit' l l' = no_second_answer l.0 l'.0
@@ -40,5 +41,5 @@ number_of_once κs args r r' exit exit' = no_second_answer
 pub after_field_once : (κs : _) (args : _) (r r' : _) (exit exit' : _) → after-field.Learnt κs args r exit → after-field.Learnt κs args r' exit' → r ≡ r'
 after_field_once κs args r r' exit exit' l l' = no_second_answer l.0 l'.0
 
-pub number_at_once : (κs : _) (args : _) (r r' : _) (exit exit' : _) → number_at.Learnt κs args r exit → number_at.Learnt κs args r' exit' → r ≡ r'
-number_at_once κs args r r' exit exit' = no_second_answer
+pub number_in_once : (κs : _) (args : _) (r r' : _) (exit exit' : _) → number_in.Learnt κs args r exit → number_in.Learnt κs args r' exit' → r ≡ r'
+number_in_once κs args r r' exit exit' = no_second_answer

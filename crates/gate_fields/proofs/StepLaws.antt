@@ -1,14 +1,7 @@
 -- One step of each loop over a text, at byte i of it, and the end. Assumes nothing.
-use mathlib.Core.Path.{◌≡◌, ap}
-use mathlib.Core.List.{List}
-use mathlib.Core.Bool.{true, false}
-use Prim.Native.Nat.{ℕ, suc, ◌+◌, ◌*◌, ◌≤◌, ◌<◌}
-use native.Mathlib.Numerals.{add-one}
-use lib.ListN.{length, drop, drop_of_length-le}
-use lib.Seq.{drop-cons}
-use borrow.Author.Tests.{eq-eqb, ne_eqb, lt-ltb, le-ltb}
+use Rattle.std.proofs.Common.{◌≡◌, ap, List, true, false, None, Some, ℕ, suc, ◌+◌, ◌*◌, ◌≤◌, ◌<◌, add-one, length, drop, drop_of_length-le, drop-cons, eq-eqb, lt-ltb, le-ltb}
+use borrow.Author.Tests.{ne_eqb}
 use Rattle.laws.specs.Lists.{at}
-use Rattle.gate_fields.specs.declared.Number.TheVariants.{Of, NotANumber}
 use Rattle.gate_fields.specs.Fields.{line_length, gap_in, digit_value, is_digits, number_from}
 
 module _ (text : List ℕ) (i : ℕ) where
@@ -38,12 +31,12 @@ module _ (text : List ℕ) (i : ℕ) where
     digit e = rw (add-one, drop-cons text i 0 there, ne_eqb _ _ e)
 
     module _ (n : ℕ) where
-      pub no-decimal : 9 < digit_value (at text i) → number_from n (drop i text) ≡ NotANumber
+      pub no-decimal : 9 < digit_value (at text i) → number_from n (drop i text) ≡ None
       unfolding number_from
       no-decimal h = rw (drop-cons text i 0 there, lt-ltb _ _ h)
 
       module _ (decimal : digit_value (at text i) ≤ 9) where
-        pub too_large : 0xFFFFFFFF < n * 10 + digit_value (at text i) → number_from n (drop i text) ≡ NotANumber
+        pub too_large : 0xFFFFFFFF < n * 10 + digit_value (at text i) → number_from n (drop i text) ≡ None
         unfolding number_from
         too_large h = rw (drop-cons text i 0 there, le-ltb _ _ decimal, lt-ltb _ _ h)
 
@@ -64,6 +57,6 @@ module _ (text : List ℕ) (i : ℕ) where
     unfolding is_digits
     all_digits = ap is_digits (drop_of_length-le text over)
 
-    pub written : (n : ℕ) → number_from n (drop i text) ≡ Of n
+    pub written : (n : ℕ) → number_from n (drop i text) ≡ Some n
     unfolding number_from
     written n = ap (number_from n) (drop_of_length-le text over)

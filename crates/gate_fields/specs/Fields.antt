@@ -1,8 +1,6 @@
 -- A recorded list: its lines, the fields of a line, and what a field stands for.
-use Rattle.std.specs.Prelude.{ℕ, suc, ◌+◌, ◌-◌, ◌*◌, ◌/◌, ◌%◌, min, List, [], ◌∷◌, ◌++◌, Bool, true, false, cond, ◌&&◌, length, take, drop, leb, ltb, eqb}
+use Rattle.std.specs.Prelude.{Option, None, Some, ℕ, suc, ◌+◌, ◌-◌, ◌*◌, ◌/◌, ◌%◌, min, List, [], ◌∷◌, ◌++◌, Bool, true, false, cond, ◌&&◌, length, take, drop, leb, ltb, eqb}
 use Rattle.laws.specs.Lists.{tab, at}
-use Rattle.gate_fields.specs.declared.Number.{Number}
-use Rattle.gate_fields.specs.declared.Number.TheVariants.{Of, NotANumber}
 
 -- the bytes of the first line, its LF among them; all bytes where no LF ends it
 unfoldable pub line_length : List ℕ → ℕ
@@ -62,26 +60,21 @@ abbrev pub decoded_into : List ℕ → List ℕ → List ℕ
 decoded_into text bytes = take (decoded_count text bytes) (decoded text) ++ drop (decoded_count text bytes) bytes
 
 -- the number that decimal digits write after a number; none where one is no such digit, or the number passes 2^32 - 1
-unfoldable pub number_from : ℕ → List ℕ → Number
-number_from n [] = Of n
+unfoldable pub number_from : ℕ → List ℕ → Option ℕ
+number_from n [] = Some n
 number_from n (x ∷ xs) =
-    cond (ltb 9 (digit_value x)) NotANumber
-    (cond (ltb 0xFFFFFFFF (n * 10 + digit_value x)) NotANumber
+    cond (ltb 9 (digit_value x)) None
+    (cond (ltb 0xFFFFFFFF (n * 10 + digit_value x)) None
     (number_from (n * 10 + digit_value x) xs))
 
 -- the number that a text writes, which is not empty
-abbrev pub number_of : List ℕ → Number
-number_of text = cond (eqb (length text) 0) NotANumber (number_from 0 text)
+abbrev pub number_of : List ℕ → Option ℕ
+number_of text = cond (eqb (length text) 0) None (number_from 0 text)
 
 -- where the field starts that comes after the one at a place: past the space after it, or at the line's end
 abbrev pub after_field : List ℕ → ℕ → ℕ
 after_field line p = min (length line) (p + gap_in (drop p line) + 1)
 
--- a number, or another where there is none
-unfoldable pub number_or : ℕ → Number → ℕ
-number_or other (Of n) = n
-number_or other NotANumber = other
-
--- the number that the field at a place writes, or another
-abbrev pub number_at : List ℕ → ℕ → ℕ → ℕ
-number_at line p other = number_or other (number_of (take (gap_in (drop p line)) (drop p line)))
+-- the number that the field at a place writes
+abbrev pub number_in : List ℕ → ℕ → Option ℕ
+number_in line p = number_of (take (gap_in (drop p line)) (drop p line))

@@ -1,19 +1,15 @@
 // The lines of a list and their fields: hex digits that stand for bytes, and decimal numbers.
 // No rule of this crate comes from the Rust: it serves the programs that replay recorded answers.
-// Where a contract has a second clause, it follows from the first and spares a caller the proof.
+// Where a contract has a second clause, it follows from the first and spares a caller the proof. No contract can say what is
+// read and written, so the functions that replay a list have none.
 #![tactic(auto)]
 
-ghost use Rattle.std.specs.Prelude.{◌≡◌, ◌≤◌, ◌<◌, min, length, drop};
+ghost use Rattle.std.specs.Prelude.{true, false, ◌≡◌, ◌≤◌, ◌<◌, IsTrue, MatchOption, length, drop};
 ghost use Rattle.io.specs.Counts.{IsPrefixLen};
 ghost use Rattle.part.specs.Parts.{IsPart};
-ghost use Rattle.gate_fields.specs.Fields.{next_line, ends_in_line, is_marked, rest_start, gap_in, digit_value, is_digits, is_hex, byte_of, decoded_count, decoded_into, number_of, after_field, number_at};
+ghost use Rattle.gate_fields.specs.Fields.{next_line, ends_in_line, is_marked, rest_start, gap_in, digit_value, is_digits, is_hex, byte_of, decoded, decoded_count, decoded_into, number_of, after_field, number_in};
 
-// What a field is that should be a number.
-#[derive(Clone, Copy)]
-pub enum Number {
-    Of(usize),
-    NotANumber,
-}
+use descriptors::{STDIN_FILENO, STDOUT_FILENO};
 
 // The largest number that a field writes.
 const MOST: usize = 0xFFFF_FFFF;
@@ -23,37 +19,67 @@ pub fn next_line(list: &[u8], at: usize) -> usize
     ensures value { result ≡ next_line list.now at }
     ensures lower_bound { at < length list.now → (at < result) × (result ≤ length list.now) }
 {
-    let mut i = at;
-    while i < list.len() {
+    for i in at..list.len() {
         if list[i] == b'\n' {
             return i + 1;
         }
-        i += 1;
     }
-    i
+    at.max(list.len())
 }
 
 // Whether a list has a line, and LF ends the last one.
 pub fn ends_in_line(list: &[u8]) -> bool
     ensures { result ≡ ends_in_line list.now }
 {
-    if list.len() == 0 {
+    list.ends_with(b"\n")
+}
+
+// Hands each line of a list to `take`, without its LF, up to the first that it does not take, and answers whether it took
+// all of them: never where LF does not end the list.
+pub fn takes_lines<F: FnMut(&[u8]) -> bool>(list: &[u8], take: F) -> bool
+    requires { F.IsAlwaysCallable take }
+    ensures { IsTrue result → IsTrue (ends_in_line list.now) }
+{
+    let Some(lines) = list.strip_suffix(b"\n") else {
         return false;
+    };
+    lines.split(|byte| *byte == b'\n').all(take)
+}
+
+// Replays the list on standard input, as far as there is room for it: hands its lines to `take`, and writes `refusal` where it
+// did not take all of them.
+pub fn replay<F: FnMut(&[u8]) -> bool>(room: &mut [u8], refusal: &[u8], take: F)
+    requires { F.IsAlwaysCallable take }
+{
+    let size = io::read_full(STDIN_FILENO, room);
+    if !takes_lines(&room[..size], take) {
+        io::write_all(STDOUT_FILENO, refusal);
     }
-    list[list.len() - 1] == b'\n'
+}
+
+// Whether standard input holds more than was read.
+fn more_comes() -> bool {
+    0 < io::read_full(STDIN_FILENO, &mut [0])
+}
+
+// Replays the list on standard input in the same way, and none of it where it has more than 65,536 bytes.
+pub fn replay_whole<F: FnMut(&[u8]) -> bool>(refusal: &[u8], take: F)
+    requires { F.IsAlwaysCallable take }
+{
+    let mut room = io::large_buffer();
+    let size = io::read_full(STDIN_FILENO, &mut room);
+    if more_comes() {
+        io::write_all(STDOUT_FILENO, b"stdin has more than 65536 bytes\n");
+    } else if !takes_lines(&room[..size], take) {
+        io::write_all(STDOUT_FILENO, refusal);
+    }
 }
 
 // Whether a line begins with a letter and a space.
 pub fn is_marked(line: &[u8], letter: u8) -> bool
     ensures { result ≡ is_marked line.now letter }
 {
-    if line.len() < 2 {
-        return false;
-    }
-    if line[1] != b' ' {
-        return false;
-    }
-    line[0] == letter
+    line.starts_with(&[letter, b' '])
 }
 
 // The part of a line from a place on; its empty part at byte 0 where it ends before.
@@ -71,24 +97,23 @@ pub fn gap_in(text: &[u8]) -> usize
     ensures value { result ≡ gap_in text.now }
     ensures prefix_len { IsPrefixLen result text.now }
 {
-    let mut i = 0;
-    while i < text.len() {
-        if text[i] == b' ' {
+    for (i, byte) in text.iter().enumerate() {
+        if *byte == b' ' {
             return i;
         }
-        i += 1;
     }
-    i
+    text.len()
 }
 
-// The value of a lower-case hex digit; of any other byte, 16.
-fn digit_value(byte: u8) -> u8
-    ensures { (result ≡ digit_value byte) × (result ≤ 16) }
+// The value of a lower-case hex digit.
+#[tactic(auto, using(std::proofs::lemmas::Bool::Decides::nat_tests), unfolding(crate::specs::Fields::digit_value))]
+fn digit_value(byte: u8) -> Option<u8>
+    ensures { MatchOption result (digit_value byte ≡ 16) (λ d. (d ≡ digit_value byte) × (d < 16)) }
 {
     match byte {
-        b'0'..=b'9' => byte - b'0',
-        b'a'..=b'f' => byte - b'a' + 10,
-        _ => 16,
+        b'0'..=b'9' => Some(byte - b'0'),
+        b'a'..=b'f' => Some(byte - b'a' + 10),
+        _ => None,
     }
 }
 
@@ -96,12 +121,10 @@ fn digit_value(byte: u8) -> u8
 fn is_digits(text: &[u8]) -> bool
     ensures { result ≡ is_digits text.now }
 {
-    let mut i = 0;
-    while i < text.len() {
-        if digit_value(text[i]) == 16 {
+    for byte in text {
+        if digit_value(*byte).is_none() {
             return false;
         }
-        i += 1;
     }
     true
 }
@@ -110,20 +133,14 @@ fn is_digits(text: &[u8]) -> bool
 pub fn is_hex(text: &[u8], most: usize) -> bool
     ensures { result ≡ is_hex text.now most }
 {
-    if text.len() % 2 != 0 {
-        return false;
-    }
-    if most < text.len() / 2 {
-        return false;
-    }
-    is_digits(text)
+    text.len() % 2 == 0 && text.len() / 2 <= most && is_digits(text)
 }
 
 // The byte that two digits stand for.
 fn byte_of(high: u8, low: u8) -> u8
     ensures { result ≡ byte_of high low }
 {
-    digit_value(high) % 16 * 16 + digit_value(low) % 16
+    digit_value(high).unwrap_or(0) * 16 + digit_value(low).unwrap_or(0)
 }
 
 // Puts the bytes that a text stands for at the start of a buffer, as many as it holds, and answers how many.
@@ -131,53 +148,43 @@ pub fn decode(text: &[u8], bytes: &mut [u8]) -> usize
     ensures value { (result ≡ decoded_count text.now bytes.old) × (bytes.new ≡ decoded_into text.now bytes.old) }
     ensures prefix_len { IsPrefixLen result bytes.new }
 {
-    let count = least(text.len() / 2, bytes.len());
-    let mut i = 0;
-    while i < count {
+    let count = (text.len() / 2).min(bytes.len());
+    for i in 0..count {
         bytes[i] = byte_of(text[2 * i], text[2 * i + 1]);
-        i += 1;
     }
     count
 }
 
-// The lesser of two numbers.
-fn least(a: usize, b: usize) -> usize
-    ensures { result ≡ min a b }
+// The bytes that digits stand for, put at the start of `room`, if they are hex digits and it holds as many bytes.
+pub fn bytes_of<'a>(digits: &[u8], room: &'a mut [u8]) -> Option<&'a [u8]>
+    ensures { MatchOption result (is_hex digits.now (length room.old) ≡ false) (λ bytes. (is_hex digits.now (length room.old) ≡ true) × (bytes.now ≡ decoded digits.now)) }
 {
-    if a < b {
-        return a;
+    if !is_hex(digits, room.len()) {
+        return None;
     }
-    b
-}
-
-// A byte as a number.
-fn wide(byte: u8) -> usize
-    ensures { result ≡ byte }
-{
-    byte as usize
+    let size = decode(digits, room);
+    Some(&room[..size])
 }
 
 // The number that a text writes in decimal digits.
-pub fn number_of(text: &[u8]) -> Number
+pub fn number_of(text: &[u8]) -> Option<usize>
     ensures { result ≡ number_of text.now }
 {
-    if text.len() == 0 {
-        return Number::NotANumber;
+    if text.is_empty() {
+        return None;
     }
     let mut number = 0;
-    let mut i = 0;
-    while i < text.len() {
-        let digit = wide(digit_value(text[i]));
+    for byte in text {
+        let digit = digit_value(*byte)?;
         if 9 < digit {
-            return Number::NotANumber;
+            return None;
         }
-        number = number * 10 + digit;
+        number = number * 10 + usize::from(digit);
         if MOST < number {
-            return Number::NotANumber;
+            return None;
         }
-        i += 1;
     }
-    Number::Of(number)
+    Some(number)
 }
 
 // Where the field starts that comes after the one at a place; the line's end where none comes.
@@ -189,16 +196,13 @@ pub fn after_field(line: &[u8], at: usize) -> usize
         return line.len();
     }
     let gap = gap_in(rest_from(line, at));
-    least(line.len(), at + gap + 1)
+    line.len().min(at + gap + 1)
 }
 
-// The number that the field at a place writes; another where it writes none.
-pub fn number_at(line: &[u8], at: usize, other: usize) -> usize
-    ensures { result ≡ number_at line.now at other }
+// The number that the field at a place writes.
+pub fn number_in(line: &[u8], at: usize) -> Option<usize>
+    ensures { result ≡ number_in line.now at }
 {
     let rest = rest_from(line, at);
-    match number_of(part::part_at(rest, 0, gap_in(rest))) {
-        Number::Of(number) => number,
-        Number::NotANumber => other,
-    }
+    number_of(&rest[..gap_in(rest)])
 }

@@ -5,24 +5,11 @@
 use descriptors::STDOUT_FILENO;
 use reading::{Applied, AudioChoice, PayloadMode};
 
-// Stores bytes at the start of a part, as far as it goes.
-fn copy(part: &mut [u8], bytes: &[u8]) {
-    let mut i = 0;
-    while i < bytes.len() {
-        if part.len() <= i {
-            return;
-        }
-        part[i] = bytes[i];
-        i += 1;
-    }
-}
-
-// Stores bytes in a film from a place on.
+// Stores bytes in a film from a place on, as far as it goes.
 fn store(film: &mut [u8], place: usize, bytes: &[u8]) {
-    if film.len() < place {
-        return;
+    for (stored, byte) in film.iter_mut().skip(place).zip(bytes) {
+        *stored = *byte;
     }
-    copy(&mut film[place..], bytes);
 }
 
 // The first two blocks of a film, with empty tables: `CRID`, `@SFV`.
@@ -53,11 +40,10 @@ fn store_chunks(film: &mut [u8]) {
 
 // Prints a title and the lines of the first bytes of a film.
 fn case(title: &[u8], film: &[u8], size: usize) {
-    if film.len() < size {
-        return;
+    if let Some(container) = film.get(..size) {
+        io::write_all(STDOUT_FILENO, title);
+        chunks_print::print(container);
     }
-    io::write_all(STDOUT_FILENO, title);
-    chunks_print::print(&film[0..size]);
 }
 
 // F with zeros after it.

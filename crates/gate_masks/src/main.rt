@@ -6,19 +6,9 @@ ghost use Rattle.std.specs.Prelude.{◌≤◌};
 
 use descriptors::{STDIN_FILENO, STDOUT_FILENO};
 use print_line::Line;
-use typed::Typed;
 
 // The bytes of a line of the list: a key's digits, and LF.
 const LINE: usize = 17;
-
-// The functions that change a payload in place.
-#[derive(Clone, Copy)]
-enum Act {
-    UnmaskVideo,
-    MaskVideo,
-    UnmaskAudio,
-    MaskAudio,
-}
 
 // The lengths of the payloads: around each place where a rule of the masks begins, and a long one.
 const LENGTHS: [usize; 20] = [
@@ -26,24 +16,15 @@ const LENGTHS: [usize; 20] = [
     0x240, 0x241, 0x25F, 0x260, 0x261, 4096,
 ];
 
-// Does one act under a key on a payload, in place.
-fn apply(act: Act, key: u64, payload: &mut [u8]) {
-    match act {
-        Act::UnmaskVideo => player::usm_unmask_video(key, payload),
-        Act::MaskVideo => player::usm_mask_video(key, payload),
-        Act::UnmaskAudio => player::usm_unmask_audio(key, payload),
-        Act::MaskAudio => player::usm_mask_audio(key, payload),
-    }
-}
-
-// The digest of what one act under a key makes of a fresh payload of `len` bytes.
-fn answer(act: Act, key: u64, len: usize) -> u64
-    requires { len ≤ 4096 }
+// The digest of what is made of a fresh payload of `len` bytes.
+fn answer<F: Fn(&mut [u8])>(change: F, len: usize) -> u64
+    requires callable { F.IsAlwaysCallable change }
+    requires room { len ≤ 4096 }
 {
     let mut space = io::buffer();
     let payload = &mut space[..len];
     gate_sample::fill(payload);
-    apply(act, key, payload);
+    change(payload);
     gate_sample::digest(payload)
 }
 
@@ -71,10 +52,10 @@ fn replay_table(key: u64) {
 fn replay_payload(key: u64, len: usize)
     requires { len ≤ 4096 }
 {
-    let unmasked_video = answer(Act::UnmaskVideo, key, len);
-    let masked_video = answer(Act::MaskVideo, key, len);
-    let unmasked_audio = answer(Act::UnmaskAudio, key, len);
-    let masked_audio = answer(Act::MaskAudio, key, len);
+    let unmasked_video = answer(|payload| player::usm_unmask_video(key, payload), len);
+    let masked_video = answer(|payload| player::usm_mask_video(key, payload), len);
+    let unmasked_audio = answer(|payload| player::usm_unmask_audio(key, payload), len);
+    let masked_audio = answer(|payload| player::usm_mask_audio(key, payload), len);
     let line = line_of(key).word(b" ").decimal(len as u64);
     let video = with_digest(with_digest(line, unmasked_video), masked_video);
     with_digest(with_digest(video, unmasked_audio), masked_audio).end();
@@ -83,52 +64,38 @@ fn replay_payload(key: u64, len: usize)
 // Writes all lines of a key.
 fn replay_key(key: u64) {
     replay_table(key);
-    let mut i = 0;
-    while i < 20 {
-        replay_payload(key, LENGTHS[i]);
-        i += 1;
+    for len in LENGTHS {
+        replay_payload(key, len);
     }
 }
 
 // The key on a line.
-fn key_on(line: &[u8]) -> Typed {
-    if line.len() != LINE {
-        return Typed::NoNumber;
+fn key_on(line: &[u8]) -> Option<u64> {
+    match line.strip_suffix(b"\n") {
+        Some(digits) if line.len() == LINE => typed::read_key(digits),
+        _ => None,
     }
-    if line[16] != b'\n' {
-        return Typed::NoNumber;
-    }
-    typed::read_key(&line[0..16])
 }
 
-// Writes the lines of each key of a list, up to the first line that is no key, and answers whether
-// all of it was a list, of one key at least.
+// Writes the lines of the key on a line, and answers whether it has one.
+fn replay_line(line: &[u8]) -> bool {
+    let Some(key) = key_on(line) else {
+        return false;
+    };
+    replay_key(key);
+    true
+}
+
+// Writes the lines of each key of a list, up to the first line that is no key, and answers whether all of it was a list, of
+// one key at least.
 fn replay(list: &[u8]) -> bool {
-    let mut at = 0;
-    while at < list.len() {
-        if list.len() - at < LINE {
-            return false;
-        }
-        let end = at + LINE;
-        let typed = key_on(&list[at..end]);
-        match typed {
-            Typed::NoNumber => {
-                return false;
-            }
-            Typed::Number(key) => {
-                replay_key(key);
-            }
-        }
-        at = end;
-    }
-    0 < at
+    !list.is_empty() && list.chunks(LINE).all(replay_line)
 }
 
 fn main() {
     let mut list = io::buffer();
-    let n = io::read_full(STDIN_FILENO, &mut list);
-    let is_list = replay(&list[..n]);
-    if !is_list {
+    let size = io::read_full(STDIN_FILENO, &mut list);
+    if !replay(&list[..size]) {
         io::write_all(STDOUT_FILENO, b"stdin is not a list of keys\n");
     }
 }

@@ -4,7 +4,6 @@
 
 mod numbers;
 
-use descriptors::{STDIN_FILENO, STDOUT_FILENO};
 use usm::moving::CodecBytes;
 
 // The most bytes of the list.
@@ -21,11 +20,10 @@ fn move_back(word: &[u8], container: &[u8], out: &mut [u8]) {
 
 // Moves a container back into an output of so many bytes, if there are as many, and writes the answer under a word.
 fn move_back_in(word: &[u8], container: &[u8], room: usize) {
-    if SPACE < room {
-        return;
-    }
     let mut out = [0xEEu8; SPACE];
-    move_back(word, container, &mut out[..room]);
+    if let Some(out) = out.get_mut(..room) {
+        move_back(word, container, out);
+    }
 }
 
 // Moves a film onward into an output and writes the answer; what was written is moved back, with room for 3 bytes more than the film has.
@@ -37,76 +35,41 @@ fn move_onward(film: &[u8], codecs: CodecBytes, out: &mut [u8]) {
     }
 }
 
-// Moves the film of a line onward, and answers whether it is one.
-fn replay_from(line: &[u8]) -> bool {
-    let n = numbers::numbers_on(line);
-    if !n.whole {
-        return false;
-    }
-    let room = n.room;
-    if SPACE < room {
-        return false;
-    }
-    let digits = gate_fields::rest_from(line, n.digits);
-    if !gate_fields::is_hex(digits, SPACE) {
-        return false;
-    }
-    let mut space = [0u8; SPACE];
-    let size = gate_fields::decode(digits, &mut space);
+// Moves the film of a line onward, if it is one.
+fn replay_from(line: &[u8]) -> Option<()> {
+    let numbers = numbers::numbers_on(line)?;
     let mut out = [0xEEu8; SPACE];
-    move_onward(&space[..size], numbers::codecs_of(n), &mut out[..room]);
-    true
+    let out = out.get_mut(..numbers.room)?;
+    let mut space = [0u8; SPACE];
+    let digits = gate_fields::rest_from(line, numbers.digits);
+    let film = gate_fields::bytes_of(digits, &mut space)?;
+    move_onward(film, numbers.codecs, out);
+    Some(())
 }
 
-// Moves the container of a line back, and answers whether it is one.
-fn replay_to(line: &[u8]) -> bool {
-    let room = gate_fields::number_at(line, 2, numbers::NONE);
+// Moves the container of a line back, if it is one.
+fn replay_to(line: &[u8]) -> Option<()> {
+    let room = gate_fields::number_in(line, 2)?;
     if SPACE < room {
-        return false;
-    }
-    let digits = gate_fields::rest_from(line, gate_fields::after_field(line, 2));
-    if !gate_fields::is_hex(digits, SPACE) {
-        return false;
+        return None;
     }
     let mut space = [0u8; SPACE];
-    let size = gate_fields::decode(digits, &mut space);
-    move_back_in(b"to", &space[..size], room);
-    true
+    let digits = gate_fields::rest_from(line, gate_fields::after_field(line, 2));
+    let container = gate_fields::bytes_of(digits, &mut space)?;
+    move_back_in(b"to", container, room);
+    Some(())
 }
 
 // Does what a line says, and answers whether it is one.
 fn replay_line(line: &[u8]) -> bool {
     if gate_fields::is_marked(line, b'f') {
-        return replay_from(line);
+        return replay_from(line).is_some();
     }
-    if gate_fields::is_marked(line, b't') {
-        return replay_to(line);
-    }
-    false
+    gate_fields::is_marked(line, b't') && replay_to(line).is_some()
 }
 
-// Does what each line of a list says, up to the first that says nothing, and answers whether all of it was a list.
-fn replay(list: &[u8]) -> bool {
-    if !gate_fields::ends_in_line(list) {
-        return false;
-    }
-    let mut at = 0;
-    while at < list.len() {
-        let next = gate_fields::next_line(list, at);
-        let end = next - 1;
-        if !replay_line(&list[at..end]) {
-            return false;
-        }
-        at = next;
-    }
-    true
-}
-
+// Does what each line of the list says, up to the first that says nothing.
 fn main() {
     let mut list = [0u8; LIST];
-    let n = io::read_full(STDIN_FILENO, &mut list);
-    let is_list = replay(&list[..n]);
-    if !is_list {
-        io::write_all(STDOUT_FILENO, b"stdin is not a list of films\n");
-    }
+    gate_fields::replay(&mut list, b"stdin is not a list of films\n", replay_line);
 }

@@ -9,25 +9,17 @@ const MOST: usize = 16;
 const BYTES: u64 = 64;
 
 // A line with an entry after it.
-fn with_entry(line: Line, index: &[[u64; 3]], at: usize) -> Line {
-    if index.len() <= at {
-        return line;
-    }
-    let line = line.word(b" ");
-    let line = line.decimal(index[at][0]);
-    let line = line.word(b":");
-    let line = line.decimal(index[at][1]);
-    let line = line.word(b":");
-    line.decimal(index[at][2])
+fn with_entry(line: Line, [chunk, start, len]: [u64; 3]) -> Line {
+    let line = line.word(b" ").decimal(chunk);
+    let line = line.word(b":").decimal(start);
+    line.word(b":").decimal(len)
 }
 
 // The line of an index.
 fn index_line(index: &[[u64; 3]]) -> Line {
     let mut line = print_line::empty().word(b"index");
-    let mut i = 0;
-    while i < index.len() {
-        line = with_entry(line, index, i);
-        i += 1;
+    for entry in index {
+        line = with_entry(line, *entry);
     }
     line
 }
@@ -35,34 +27,31 @@ fn index_line(index: &[[u64; 3]]) -> Line {
 // A line with the answer to a jump after it.
 fn with_jump(line: Line, index: &[[u64; 3]], byte: u64) -> Line {
     match seek::seek(index, byte) {
-        Sought::At { chunk, offset } => {
+        Some(Sought { chunk, offset }) => {
             let line = line.word(b" ");
             let line = line.decimal(chunk);
             let line = line.word(b"+");
             line.decimal(offset)
         }
-        Sought::PastTheEnd => line.word(b" -"),
+        None => line.word(b" -"),
     }
 }
 
 // The line of the jumps to the first bytes of the stream.
 fn jump_line(index: &[[u64; 3]]) -> Line {
     let mut line = print_line::empty().word(b"jumps");
-    let mut byte = 0;
-    while byte < BYTES {
+    for byte in 0..BYTES {
         line = with_jump(line, index, byte);
-        byte += 1;
     }
     line
 }
 
 // Writes the first entries of a list, and the jumps by them.
 fn write_entries(list: &[[u64; 3]], count: usize) {
-    if list.len() < count {
-        return;
+    if let Some(index) = list.get(..count) {
+        index_line(index).end();
+        jump_line(index).end();
     }
-    index_line(&list[0..count]).end();
-    jump_line(&list[0..count]).end();
 }
 
 // Writes the index of a film, built into a list, and the jumps by it, or why there is none.

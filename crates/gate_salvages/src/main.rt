@@ -2,40 +2,31 @@
 // each. README.md beside this crate has the format.
 #![tactic(auto)]
 
-use descriptors::{STDIN_FILENO, STDOUT_FILENO};
 use print_line::Line;
-use refusal::Refusal;
-use salvage::Salvaged;
+use refusal::{Cause, Refusal};
+use salvage::Kept;
 
 // The line of a refusal.
 fn refused(refusal: Refusal) -> Line {
     let cause = refusal.cause;
-    let number = refusal::number_of(cause);
-    let line = print_line::empty().word(b"refused ").decimal(number as u64);
-    let placed = line.word(b" at ").decimal(refusal.place as u64);
-    if number == 8 {
-        return placed
-            .word(b" type ")
-            .decimal(refusal::beside_of(cause).unknown_type as u64);
+    let line = plain_film_print::refusal_line(refusal::number_of(cause), refusal.place);
+    match cause {
+        Cause::UnknownType(kind) => line.word(b" type ").decimal(kind as u64),
+        _ => line,
     }
-    placed
 }
 
 // The line of an answer. What is kept is told as the length of the part that is handed out.
-fn line_of(answer: Salvaged, part: &[u8]) -> Line {
+fn line_of(answer: Result<Kept, Refusal>, part: &[u8]) -> Line {
     match answer {
-        Salvaged::Kept {
-            kept: _,
-            dropped,
-            cause,
-        } => {
+        Ok(found) => {
             let kept = print_line::empty()
                 .word(b"kept ")
                 .decimal(part.len() as u64);
-            let both = kept.word(b" dropped ").decimal(dropped as u64);
-            both.word(b" cause ").decimal(cause as u64)
+            let both = kept.word(b" dropped ").decimal(found.dropped as u64);
+            both.word(b" cause ").decimal(found.cause as u64)
         }
-        Salvaged::Refused(refusal) => refused(refusal),
+        Err(refusal) => refused(refusal),
     }
 }
 
@@ -46,46 +37,25 @@ fn write_answer(film: &[u8]) {
 
 // Writes the answer on every beginning of a film.
 fn write_answers(film: &[u8]) {
-    let mut len = 0;
-    while len < film.len() {
+    for len in 0..=film.len() {
         write_answer(&film[..len]);
-        len += 1;
     }
-    write_answer(film);
 }
 
 // Writes the answers on the film of a line, and answers whether it is one.
 fn replay_film(digits: &[u8], space: &mut [u8]) -> bool {
-    if !gate_fields::is_hex(digits, space.len()) {
+    let Some(film) = gate_fields::bytes_of(digits, space) else {
         return false;
-    }
-    let size = gate_fields::decode(digits, space);
-    write_answers(&space[..size]);
+    };
+    write_answers(film);
     true
 }
 
-// Replays each line of a list, and answers whether all of it was a list.
-fn replay(list: &[u8], space: &mut [u8]) -> bool {
-    if !gate_fields::ends_in_line(list) {
-        return false;
-    }
-    let mut at = 0;
-    while at < list.len() {
-        let next = gate_fields::next_line(list, at);
-        let end = next - 1;
-        if !replay_film(&list[at..end], space) {
-            return false;
-        }
-        at = next;
-    }
-    true
-}
-
+// Writes the answers on each film of the list.
 fn main() {
     let mut list = io::large_buffer();
-    let n = io::read_full(STDIN_FILENO, &mut list);
     let mut space = io::buffer();
-    if !replay(&list[..n], &mut space) {
-        io::write_all(STDOUT_FILENO, b"stdin is not a list of films\n");
-    }
+    gate_fields::replay(&mut list, b"stdin is not a list of films\n", |line| {
+        replay_film(line, &mut space)
+    });
 }

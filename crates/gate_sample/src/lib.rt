@@ -19,11 +19,9 @@ pub fn fill(bytes: &mut [u8])
     ensures { bytes.new ≡ tab sample_byte (length bytes.old) }
 {
     let mut x = 1;
-    let mut i = 0;
-    while i < bytes.len() {
+    for byte in bytes.iter_mut() {
         x = number_after(x);
-        bytes[i] = (x / 65536 % 256) as u8;
-        i += 1;
+        *byte = (x / 65536 % 256) as u8;
     }
 }
 
@@ -40,10 +38,8 @@ pub fn digest(bytes: &[u8]) -> u64
     ensures { result ≡ digest_of bytes.now }
 {
     let mut h = 0;
-    let mut i = 0;
-    while i < bytes.len() {
-        h = digest_after(h, bytes[i]);
-        i += 1;
+    for byte in bytes {
+        h = digest_after(h, *byte);
     }
     h
 }

@@ -29,20 +29,6 @@ fn print(number: u64) {
     io::write_all(STDOUT_FILENO, b" ");
 }
 
-// Prints the first lines of a list.
-fn print_lines(lines: &[[u64; 3]], count: usize) {
-    let mut i = 0;
-    while i < lines.len() {
-        let line = lines[i];
-        if i < count {
-            print(line[0]);
-            print(line[1]);
-            print(line[2]);
-        }
-        i += 1;
-    }
-}
-
 // Prints the reply to a statement and, if it is not refused, its lines.
 fn state(film: &[u8], tenants: &[[u64; 2]]) {
     let mut lines = [[0; 3]; TENANTS];
@@ -51,45 +37,29 @@ fn state(film: &[u8], tenants: &[[u64; 2]]) {
     print(reply.refused_at as u64);
     print(reply.count as u64);
     if reply.number == 0 {
-        print_lines(&lines, reply.count);
+        for number in lines.iter().take(reply.count).flatten() {
+            print(*number);
+        }
     }
     io::write_all(STDOUT_FILENO, b"\n");
-}
-
-// Puts a tenant at a place of a list, if there is one.
-fn put_tenant(list: &mut [[u64; 2]], at: usize, tenant: [u64; 2]) {
-    if at < list.len() {
-        list[at] = tenant;
-    }
-}
-
-// Puts tenants into a list in reverse, as far as it goes.
-fn reverse(tenants: &[[u64; 2]], list: &mut [[u64; 2]]) {
-    let mut i = 0;
-    while i < tenants.len() {
-        put_tenant(list, tenants.len() - 1 - i, tenants[i]);
-        i += 1;
-    }
 }
 
 // Prints what is stated for the first of some tenants, as listed and in reverse.
 fn state_both(film: &[u8], tenants: &[[u64; 2]], count: usize) {
     let mut list = [[0; 2]; TENANTS];
-    if TENANTS < count {
+    let (Some(tenants), Some(reversed)) = (tenants.get(..count), list.get_mut(..count)) else {
         return;
-    }
-    if tenants.len() < count {
-        return;
-    }
-    reverse(&tenants[..count], &mut list);
-    state(film, &tenants[..count]);
-    state(film, &list[..count]);
+    };
+    reversed.copy_from_slice(tenants);
+    reversed.reverse();
+    state(film, tenants);
+    state(film, reversed);
 }
 
 // Puts the bytes that digits stand for at a place of a film, as far as they fit.
 fn put(space: &mut [u8], place: usize, digits: &[u8]) {
-    if place < space.len() {
-        gate_fields::decode(digits, &mut space[place..]);
+    if let Some(part) = space.get_mut(place..) {
+        gate_fields::decode(digits, part);
     }
 }
 
@@ -105,11 +75,13 @@ fn tenant_from(digits: &[u8]) -> [u64; 2] {
 
 // Puts a tenant into a list, if there is room, and answers how many there are.
 fn add_tenant(tenants: &mut [[u64; 2]], count: usize, tenant: [u64; 2]) -> usize {
-    put_tenant(tenants, count, tenant);
-    if count < tenants.len() {
-        return count + 1;
+    match tenants.get_mut(count) {
+        Some(place) => {
+            *place = tenant;
+            count + 1
+        }
+        None => count,
     }
-    count
 }
 
 // The number that eight digits stand for.
@@ -147,18 +119,17 @@ fn follow(record: &[u8], counts: Counts, space: &mut [u8], tenants: &mut [[u64; 
     counts
 }
 
-// Does what each record of a list says.
+// Does what each record of a list says. A record begins where a line does and has its bytes whatever the line's length is, which
+// no iterator of the library says, so a loop goes on to what is left of the list.
 fn replay(list: &[u8], space: &mut [u8], tenants: &mut [[u64; 2]]) {
     let mut counts = Counts {
         film: 0,
         tenants: 0,
     };
-    let mut at = 0;
-    while at < list.len() {
-        let next = gate_fields::next_line(list, at);
-        let now = follow(part::part_at(list, at, RECORD), counts, space, tenants);
-        counts = now;
-        at = next;
+    let mut left = list;
+    while !left.is_empty() {
+        counts = follow(part::part_at(left, 0, RECORD), counts, space, tenants);
+        left = gate_fields::rest_from(left, gate_fields::next_line(left, 0));
     }
 }
 

@@ -1,9 +1,7 @@
 // The lines that are written: what our functions answer on a table, and on a name and a row of it.
 use cell::Cell;
-use lookup::Lookup;
 use reading::TableMode;
 use refusal::{Cause, Refusal};
-use table::TableAnswer;
 
 // The least number of 64 bits that stands for a negative one.
 const NEGATIVE: u64 = 0x8000_0000_0000_0000;
@@ -63,15 +61,15 @@ fn write_held(bytes: &[u8], cell: Cell) {
 // Writes the answer on the table that the bytes begin with.
 pub(crate) fn write_table(bytes: &[u8]) {
     match table::read_table(bytes, 0, TableMode::Original) {
-        TableAnswer::Table(layout) => write_number(b"table ", layout.rows as u64),
-        TableAnswer::NoTable(refusal) => write_refusal(refusal),
+        Ok(layout) => write_number(b"table ", layout.rows as u64),
+        Err(refusal) => write_refusal(refusal),
     }
 }
 
 // Writes the answer on a name and a row of that table.
 pub(crate) fn write_cell(bytes: &[u8], name: &[u8], row: usize) {
     match lookup::cell_of(bytes, 0, TableMode::Original, name, row) {
-        Lookup::Holds(cell) => write_held(bytes, cell),
-        Lookup::NoTable(refusal) => write_refusal(refusal),
+        Ok(cell) => write_held(bytes, cell),
+        Err(refusal) => write_refusal(refusal),
     }
 }

@@ -3,122 +3,49 @@
 // the format.
 #![tactic(auto)]
 
-ghost use Rattle.std.specs.Prelude.{◌≤◌, ◌<◌, length};
-
 mod answers;
-
-use descriptors::{STDIN_FILENO, STDOUT_FILENO};
-use gate_fields::Number;
-
-// The longest table of the list.
-const MOST_TABLE: usize = 4096;
 
 // The longest name of the list.
 const MOST_NAME: usize = 256;
 
-// Writes the answer on a query by the name's hex digits and the row.
-fn replay_cell(table: &[u8], digits: &[u8], row: usize) {
-    let mut space = [0u8; MOST_NAME];
-    let size = gate_fields::decode(digits, &mut space);
-    answers::write_cell(table, &space[..size], row);
-}
-
-// Writes the answer on the query of a line, and answers whether it is one.
-fn replay_query(line: &[u8], table: &[u8]) -> bool {
-    if !gate_fields::is_marked(line, b'c') {
-        return false;
-    }
-    let query = gate_fields::rest_from(line, 2);
+// Writes the answer on a query by its text: a name's hex digits, and a row. Answers whether it is one.
+fn replay_query(query: &[u8], table: &[u8]) -> bool {
     let gap = gate_fields::gap_in(query);
-    if !gate_fields::is_hex(&query[..gap], MOST_NAME) {
+    let mut space = [0u8; MOST_NAME];
+    let name = gate_fields::bytes_of(&query[..gap], &mut space);
+    let row = gate_fields::number_of(gate_fields::rest_from(query, gap + 1));
+    let (Some(name), Some(row)) = (name, row) else {
         return false;
-    }
-    match gate_fields::number_of(gate_fields::rest_from(query, gap + 1)) {
-        Number::Of(row) => {
-            replay_cell(table, &query[..gap], row);
-            true
-        }
-        Number::NotANumber => false,
-    }
-}
-
-// Writes the answers on the queries whose lines start at a place, and answers where it came to: to the
-// first line that is no query.
-fn replay_queries(list: &[u8], from: usize, table: &[u8]) -> usize
-    requires { from ≤ length list.now }
-    ensures { (from ≤ result) × (result ≤ length list.now) }
-{
-    let mut at = from;
-    while at < list.len() {
-        let next = gate_fields::next_line(list, at);
-        let end = next - 1;
-        if !replay_query(&list[at..end], table) {
-            return at;
-        }
-        at = next;
-    }
-    at
-}
-
-// Whether a line is a table's.
-fn is_table(line: &[u8]) -> bool {
-    if !gate_fields::is_marked(line, b't') {
-        return false;
-    }
-    gate_fields::is_hex(gate_fields::rest_from(line, 2), MOST_TABLE)
-}
-
-// Writes the answers on the table whose line starts at a place and on its queries, and answers where it
-// came to: nowhere if the line is not a table's.
-fn replay_table(list: &[u8], at: usize) -> usize
-    requires { at < length list.now }
-    ensures { (at ≤ result) × (result ≤ length list.now) }
-{
-    let next = gate_fields::next_line(list, at);
-    let end = next - 1;
-    let line = &list[at..end];
-    if !is_table(line) {
-        return at;
-    }
-    let mut space = io::buffer();
-    let size = gate_fields::decode(gate_fields::rest_from(line, 2), &mut space);
-    let table = &space[..size];
-    answers::write_table(table);
-    replay_queries(list, next, table)
-}
-
-// Writes the answers on each table of a list, up to the first line that is neither a table nor a query of
-// one, and answers whether all of it was a list.
-fn replay(list: &[u8]) -> bool {
-    if !gate_fields::ends_in_line(list) {
-        return false;
-    }
-    let mut at = 0;
-    while at < list.len() {
-        let next = replay_table(list, at);
-        if next == at {
-            return false;
-        }
-        at = next;
-    }
+    };
+    answers::write_cell(table, name, row);
     true
 }
 
-// Whether standard input holds more than was read.
-fn more_comes() -> bool {
-    let mut byte = [0u8; 1];
-    0 < io::read_full(STDIN_FILENO, &mut byte)
+// Puts the table of some digits into a space, writes the answer on it, and tells its size, if they are a table's.
+fn replay_table(digits: &[u8], space: &mut [u8]) -> Option<usize> {
+    let table = gate_fields::bytes_of(digits, space)?;
+    answers::write_table(table);
+    Some(table.len())
 }
 
+// Writes the answer on the table of a line, or on its query of the table before it, which has so many bytes of a space, and
+// answers whether it is one of these.
+fn replay_line(line: &[u8], space: &mut [u8], table: &mut Option<usize>) -> bool {
+    if gate_fields::is_marked(line, b't') {
+        *table = replay_table(gate_fields::rest_from(line, 2), space);
+        return table.is_some();
+    }
+    let Some(table) = table.and_then(|size| space.get(..size)) else {
+        return false;
+    };
+    gate_fields::is_marked(line, b'c') && replay_query(gate_fields::rest_from(line, 2), table)
+}
+
+// Writes the answers on each table of the list and on its queries, up to the first line that is neither.
 fn main() {
-    let mut list = io::large_buffer();
-    let n = io::read_full(STDIN_FILENO, &mut list);
-    if more_comes() {
-        io::write_all(STDOUT_FILENO, b"stdin has more than 65536 bytes\n");
-        return;
-    }
-    let is_list = replay(&list[..n]);
-    if !is_list {
-        io::write_all(STDOUT_FILENO, b"stdin is not a list of tables\n");
-    }
+    let mut space = io::buffer();
+    let mut table = None;
+    gate_fields::replay_whole(b"stdin is not a list of tables\n", |line| {
+        replay_line(line, &mut space, &mut table)
+    });
 }

@@ -4,7 +4,6 @@
 
 mod numbers;
 
-use descriptors::{STDIN_FILENO, STDOUT_FILENO};
 use gate_size_line::{with_bytes, with_number};
 use numbers::Numbers;
 use print_line::Line;
@@ -114,44 +113,22 @@ fn put_marker(space: &mut [u8], place: usize) {
 
 // Does what a line says, and answers whether it is one.
 fn replay_line(line: &[u8]) -> bool {
-    let n = numbers::numbers_on(line);
-    if !n.whole {
+    let Some(n) = numbers::numbers_on(line) else {
         return false;
-    }
-    let room = n.room;
-    if SPACE < room {
+    };
+    let mut out = [0xEEu8; SPACE];
+    let Some(out) = out.get_mut(..n.room) else {
         return false;
-    }
+    };
     let mut space = [0u8; SPACE];
     gate_sample::fill(&mut space);
     put_marker(&mut space, n.marker);
-    let mut out = [0xEEu8; SPACE];
-    replay_write(n, &space, &mut out[..room]);
+    replay_write(n, &space, out);
     true
 }
 
-// Does what each line of a list says, up to the first that says nothing, and answers whether all of it was a list.
-fn replay(list: &[u8]) -> bool {
-    if !gate_fields::ends_in_line(list) {
-        return false;
-    }
-    let mut at = 0;
-    while at < list.len() {
-        let next = gate_fields::next_line(list, at);
-        let end = next - 1;
-        if !replay_line(&list[at..end]) {
-            return false;
-        }
-        at = next;
-    }
-    true
-}
-
+// Does what each line of the list says, up to the first that says nothing.
 fn main() {
     let mut list = io::large_buffer();
-    let n = io::read_full(STDIN_FILENO, &mut list);
-    let is_list = replay(&list[..n]);
-    if !is_list {
-        io::write_all(STDOUT_FILENO, b"stdin is not a list of films\n");
-    }
+    gate_fields::replay(&mut list, b"stdin is not a list of films\n", replay_line);
 }

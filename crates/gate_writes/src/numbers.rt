@@ -1,9 +1,8 @@
 // The numbers on a line of the list, one space between each two.
 
-// The numbers of a line, and whether it is one.
+// The numbers of a line.
 #[derive(Clone, Copy)]
 pub(crate) struct Numbers {
-    pub(crate) whole: bool,
     pub(crate) name: usize,
     pub(crate) video: usize,
     pub(crate) has_audio: usize,
@@ -22,24 +21,18 @@ pub(crate) struct Numbers {
 // How many numbers a line has.
 const COUNT: usize = 13;
 
-// What stands for a text that is no number.
-const NONE: usize = 0x1_0000_0000;
-
-// The numbers on a line.
-pub(crate) fn numbers_on(line: &[u8]) -> Numbers {
-    let mut n = [NONE; COUNT];
+// The numbers on a line, if it has as many and nothing after them.
+pub(crate) fn numbers_on(line: &[u8]) -> Option<Numbers> {
+    let mut n = [0; COUNT];
     let mut from = 0;
-    let mut i = 0;
-    let mut whole = true;
-    while i < COUNT {
-        let number = gate_fields::number_at(line, from, NONE);
-        n[i] = number;
-        whole = whole & (number != NONE);
+    for number in n.iter_mut() {
+        *number = gate_fields::number_in(line, from)?;
         from = gate_fields::after_field(line, from);
-        i += 1;
     }
-    Numbers {
-        whole: whole & (from == line.len()),
+    if from != line.len() {
+        return None;
+    }
+    Some(Numbers {
         name: n[0],
         video: n[1],
         has_audio: n[2],
@@ -53,5 +46,5 @@ pub(crate) fn numbers_on(line: &[u8]) -> Numbers {
         key_low: n[10],
         marker: n[11],
         room: n[12],
-    }
+    })
 }

@@ -1,4 +1,7 @@
 -- Example F, whole and cut, and a film of such blocks with audio: read to their chunks, by computing. Assumes nothing.
+use Rattle.std.specs.Prelude.{None, Result, Ok}
+use Rattle.header.specs.declared.Header.{Header}
+use Rattle.refusal.specs.declared.Refusal.{Refusal}
 use Prim.Native.Nat.{ℕ, zero, suc}
 use mathlib.Core.Path.{◌≡◌, refl}
 use mathlib.Core.List.{List, [], ◌∷◌, ◌++◌, map}
@@ -7,15 +10,11 @@ use lib.ListN.{length, take}
 use Rattle.refusal.specs.declared.Cause.TheVariants.{RanOut}
 use Rattle.reading.specs.declared.Reading.{Reading}
 use Rattle.signature.specs.Signatures.{same_bytes, header_end, metadata_end, contents_end}
-use Rattle.film_name.specs.declared.Name.TheVariants.{Fallback}
-use Rattle.codec.specs.declared.Codec.TheVariants.{Absent}
 use Rattle.layout.specs.Layouts.{counted_in, layout_in}
 use Rattle.table.specs.Walks.{walk_of, columns_from, rows_from}
 use Rattle.table.specs.Tables.{table_of}
 use Rattle.lookup.specs.Lookups.{cell_from}
 use Rattle.block.specs.Blocks.{head_at, marked_at, marker_block, table_block, codec_block, name_block, ahead_at, last_block}
-use Rattle.header.specs.declared.HeaderAnswer.{HeaderAnswer}
-use Rattle.header.specs.declared.HeaderAnswer.TheVariants.{Read}
 use Rattle.header.specs.Headers.{step7_video, step7_table, step7, step6, step5, step4, refused, step3_audio, step3, step2, step1, header_of}
 
 abbrev zeros : ℕ → List ℕ
@@ -71,8 +70,8 @@ with_audio =
     ++ block_of audio 0 metadata_ends)))))))
 
 -- nothing but whether there is audio, and where the chunks begin
-abbrev told : Bool → ℕ → HeaderAnswer
-told audio start = Read (record { name = Fallback; mpeg_codec = Absent; audio = audio; audio_codec = Absent; start = start })
+abbrev told : Bool → ℕ → Result Header Refusal
+told audio start = Ok (record { name = None; mpeg_codec = None; audio = audio; audio_codec = None; start = start })
 
 F-size : length F ≡ 448
 unfolding F

@@ -1,12 +1,10 @@
 -- Rules H: where the tables of a header stand. s begins with the header; audio says whether step 3 found audio.
-use Rattle.std.specs.Prelude.{ℕ, ◌+◌, List, Bool, cond, eqb}
+use Rattle.std.specs.Prelude.{ℕ, ◌+◌, List, Bool, cond, eqb, Option, Some, None, Result, Ok, Err}
+use Rattle.header.specs.declared.Header.{Header}
+use Rattle.refusal.specs.declared.Refusal.{Refusal}
 use Rattle.word.specs.Numbers.{be32}
 use Rattle.signature.specs.Signatures.{SFA}
 use Rattle.refusal.specs.Numbers.{number_of, beside_of}
-use Rattle.header.specs.declared.HeaderAnswer.{HeaderAnswer}
-use Rattle.header.specs.declared.HeaderAnswer.TheVariants.{Read, Refused}
-use Rattle.pieces.specs.declared.Opened.{Opened}
-use Rattle.pieces.specs.declared.Opened.TheVariants.{More, Known}
 use Rattle.header_tables.specs.declared.HeaderTables.{HeaderTables}
 use Rattle.header_tables.specs.declared.TablesReply.{TablesReply}
 
@@ -49,10 +47,10 @@ abbrev pub no_tables : ℕ → ℕ → ℕ → ℕ → TablesReply
 no_tables at number unknown-type more =
     record { refused_at = at; tables = record { name = 0; video = 0; audio = 0; video_metadata = 0; audio_metadata = 0 }; number = number; unknown_type = unknown-type; more = more }
 
-abbrev pub reply_on : List ℕ → HeaderAnswer → TablesReply
-reply_on s (Read header) = record { refused_at = 0; tables = tables_in s header.audio; number = 0; unknown_type = 0; more = 0 }
-reply_on s (Refused refusal) = no_tables refusal.place (number_of refusal.cause) (beside_of refusal.cause).unknown_type 0
+abbrev pub reply_on : List ℕ → Result Header Refusal → TablesReply
+reply_on s (Ok header) = record { refused_at = 0; tables = tables_in s header.audio; number = 0; unknown_type = 0; more = 0 }
+reply_on s (Err refusal) = no_tables refusal.place (number_of refusal.cause) (beside_of refusal.cause).unknown_type 0
 
-abbrev pub tables_reply : List ℕ → Opened → TablesReply
-tables_reply s More = no_tables 0 0 0 1
-tables_reply s (Known header) = reply_on s header
+abbrev pub tables_reply : List ℕ → Option (Result Header Refusal) → TablesReply
+tables_reply s None = no_tables 0 0 0 1
+tables_reply s (Some header) = reply_on s header

@@ -1,18 +1,17 @@
 -- What is promised of the tables of a header. Proved under the same name in proofs/Promises.antt.
-use Rattle.std.specs.Prelude.{ℕ, ◌≡◌, List}
+use Rattle.std.specs.Prelude.{ℕ, ◌≡◌, List, Result, Ok, Err}
+use Rattle.refusal.specs.declared.Refusal.{Refusal}
+use Rattle.layout.specs.declared.Layout.{Layout}
 use Rattle.reading.specs.declared.Reading.{Reading}
-use Rattle.table.specs.declared.TableAnswer.{TableAnswer}
-use Rattle.table.specs.declared.TableAnswer.TheVariants.{Table, NoTable}
 use Rattle.table.specs.Tables.{table_at}
 use Rattle.header.specs.declared.Header.{Header}
-use Rattle.header.specs.declared.HeaderAnswer.TheVariants.{Read}
 use Rattle.header.specs.Headers.{header_of}
 use Rattle.header_tables.specs.declared.HeaderTables.{HeaderTables}
 use Rattle.header_tables.specs.HeaderTables.{tables_in}
 
-abbrev pub IsTable : TableAnswer → Type 0
-IsTable (Table l) = Unit
-IsTable (NoTable refusal) = ⊥
+abbrev pub IsTable : Result Layout Refusal → Type 0
+IsTable (Ok l) = Unit
+IsTable (Err refusal) = ⊥
 
 -- a table is accepted at a place
 abbrev pub HasTable : List ℕ → Reading → ℕ → Type 0
@@ -28,4 +27,4 @@ pub record AllThere (s : List ℕ) (how : Reading) (tables : HeaderTables) : Typ
 
 -- At each place that is said of the header of a film, a table is accepted: the walk over the header has read it there.
 abbrev pub TablesStandThere : Type 0
-TablesStandThere = (s : List ℕ) (how : Reading) (header : Header) → header_of s how ≡ Read header → AllThere s how (tables_in s header.audio)
+TablesStandThere = (s : List ℕ) (how : Reading) (header : Header) → header_of s how ≡ Ok header → AllThere s how (tables_in s header.audio)

@@ -3,17 +3,17 @@
 
 ghost use Rattle.std.specs.Prelude.{◌≡◌, ◌+◌, ◌<◌, ◌^◌, true};
 ghost use Rattle.pieces.specs.Pieces.{header_in};
-ghost use Rattle.header_tables.specs.HeaderTables.{next_after, video_block, audio_block, last_table, tables_in, no_tables, reply_on, tables_reply};
+ghost use Rattle.header_tables.specs.HeaderTables.{next_after, video_block, audio_block, last_table, tables_in, reply_on, tables_reply};
 
-use header::HeaderAnswer;
-use pieces::Opened;
+use header::Header;
 use reading::Reading;
+use refusal::Refusal;
 use signature::{INSIDE, LETTERS};
 
 // Where the tables of a header stand: that with the film's name, those of video and audio, and their metadata. Of audio
 // that is not there the place is 0.
 #[repr(C)]
-#[derive(Clone, Copy)]
+#[derive(Clone, Copy, Default)]
 pub struct HeaderTables {
     pub name: usize,
     pub video: usize,
@@ -25,7 +25,7 @@ pub struct HeaderTables {
 // What a film's beginning says of its header's tables: where they stand, or the film's refusal, or that more bytes are
 // needed to say. What has no meaning in it is 0.
 #[repr(C)]
-#[derive(Clone, Copy)]
+#[derive(Clone, Copy, Default)]
 pub struct TablesReply {
     pub refused_at: usize,
     pub tables: HeaderTables,
@@ -51,9 +51,10 @@ fn last_table(bytes: &[u8], place: usize) -> usize
     ensures { result ≡ last_table bytes.now place }
 {
     if word::read32(bytes, place) == signature::SFA {
-        return place + INSIDE;
+        place + INSIDE
+    } else {
+        0
     }
-    0
 }
 
 // The tables of a header with audio, whose video and audio tables' blocks start at these places.
@@ -92,47 +93,21 @@ fn tables_in(bytes: &[u8], audio: bool) -> HeaderTables
     }
 }
 
-// A reply without places.
-fn no_tables(refused_at: usize, number: u8, unknown_type: u8, more: u8) -> TablesReply
-    ensures { result ≡ no_tables refused_at number unknown_type more }
-{
-    TablesReply {
-        refused_at,
-        tables: HeaderTables {
-            name: 0,
-            video: 0,
-            audio: 0,
-            video_metadata: 0,
-            audio_metadata: 0,
-        },
-        number,
-        unknown_type,
-        more,
-    }
-}
-
 // What a beginning says of its tables, where it says that of the header.
-fn reply_on(bytes: &[u8], header: HeaderAnswer) -> TablesReply
+fn reply_on(bytes: &[u8], header: Result<Header, Refusal>) -> TablesReply
     ensures { result ≡ reply_on bytes.now header }
 {
     match header {
-        HeaderAnswer::Read(read) => TablesReply {
-            refused_at: 0,
+        Ok(read) => TablesReply {
             tables: tables_in(bytes, read.audio),
-            number: 0,
-            unknown_type: 0,
-            more: 0,
+            ..TablesReply::default()
         },
-        HeaderAnswer::Refused(refusal) => {
-            let cause = refusal.cause;
-            let beside = refusal::beside_of(cause);
-            no_tables(
-                refusal.place,
-                refusal::number_of(cause),
-                beside.unknown_type,
-                0,
-            )
-        }
+        Err(refusal) => TablesReply {
+            refused_at: refusal.place,
+            number: refusal::number_of(refusal.cause),
+            unknown_type: refusal::beside_of(refusal.cause).unknown_type,
+            ..TablesReply::default()
+        },
     }
 }
 
@@ -141,7 +116,10 @@ pub fn header_tables(beginning: &[u8], total: usize, reading: Reading) -> Tables
     ensures { result ≡ tables_reply beginning.now (header_in beginning.now total reading) }
 {
     match pieces::header_in(beginning, total, reading) {
-        Opened::More => no_tables(0, 0, 0, 1),
-        Opened::Known(header) => reply_on(beginning, header),
+        None => TablesReply {
+            more: 1,
+            ..TablesReply::default()
+        },
+        Some(header) => reply_on(beginning, header),
     }
 }

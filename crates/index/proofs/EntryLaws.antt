@@ -1,5 +1,6 @@
 -- A loop that stores the entry of each video payload: with the entries from here on stored after it, what stands there is the whole index. Assumes nothing.
-use Prim.Native.Nat.{ℕ, ◌+◌, ◌-◌, ◌≤◌}
+use Rattle.std.specs.Prelude.{Some, None, Ok, Err}
+use Prim.Native.Nat.{ℕ, ◌+◌, ◌≤◌}
 use mathlib.Core.Path.{◌≡◌, sym, ap, ◌∙◌}
 use mathlib.Core.List.{List, [], ◌∷◌}
 use native.Mathlib.Nat.{add-zero, zero-add}
@@ -12,7 +13,6 @@ use Rattle.reading.specs.declared.Applied.{Applied}
 use Rattle.chunk.specs.declared.Kind.{Kind}
 use Rattle.chunk.specs.declared.Kind.TheVariants.{Video, Audio, Other, End}
 use Rattle.chunk.specs.declared.Chunk.{Chunk}
-use Rattle.chunk.specs.declared.ChunkStep.TheVariants.{Over, Found, Refused}
 use Rattle.chunk.specs.Chunks.{chunk_at}
 use Rattle.walk.specs.Walks.{walk_from, video_in, size_of, video_size}
 use Rattle.walk.proofs.WalkLaws.{sizes_fit, count_fits}
@@ -103,11 +103,11 @@ module _ (container : List ℕ) (reading : Applied) (start : ℕ) (list : List (
     ended : s ≡ gathered entered (entries 0 list 0) (walk_from container reading start).chunks → Ended
     ended e = let whole = e ∙ whole_entered in (ap (λ (t : Entries). t.count) whole, ap (λ (t : Entries). t.holds) whole)
 
-    pub entering_over : chunk_at container reading c ≡ Over → Ended
+    pub entering_over : chunk_at container reading c ≡ Ok None → Ended
     entering_over e = ended (loop_over entered container reading start (entries 0 list 0) c s loop e).0
 
-    pub entering_refused : (refusal : Refusal) → chunk_at container reading c ≡ Refused refusal → Ended
+    pub entering_refused : (refusal : Refusal) → chunk_at container reading c ≡ Err refusal → Ended
     entering_refused refusal e = ended (loop_refused entered container reading start (entries 0 list 0) c s loop refusal e).0
 
-    pub entering_found : (chunk : Chunk) → chunk_at container reading c ≡ Found chunk → Entering chunk.next (entered s chunk)
+    pub entering_found : (chunk : Chunk) → chunk_at container reading c ≡ Ok (Some chunk) → Entering chunk.next (entered s chunk)
     entering_found chunk e = loop_goes_on entered container reading start (entries 0 list 0) c s loop chunk e

@@ -9,19 +9,18 @@ ghost use Rattle.list.specs.Listing.{counted_in};
 ghost use Rattle.index.specs.Entries.{entry_in, entries_of};
 ghost use Rattle.index.specs.Indexing.{entered_by, Indexing};
 
-use chunk::{Chunk, ChunkStep, Kind};
-use film::Surveyed;
-use list::{ListReply, Listed};
+use chunk::{Chunk, Kind};
+use list::ListReply;
 use reading::{Applied, AudioChoice};
+use refusal::Refusal;
 
-// Stores an entry, if the list goes as far.
+// Stores an entry, if the list goes as far. By `get_mut` its proof did not close.
 fn store(index: &mut [[u64; 3]], at: usize, entry: [u64; 3])
     ensures { index.new ≡ set index.old at entry }
 {
-    if index.len() <= at {
-        return;
+    if at < index.len() {
+        index[at] = entry;
     }
-    index[at] = entry;
 }
 
 // Stores the entry of a chunk, if it has a video payload, which begins at a place of the stream. Answers how many entries
@@ -30,16 +29,13 @@ fn put_entry(index: &mut [[u64; 3]], count: usize, place: usize, chunk: Chunk) -
     requires { count + 1 < 2 ^ 64 }
     ensures { (result ≡ count + length (entry_in place chunk)) × (index.new ≡ sets index.old count (entry_in place chunk)) }
 {
-    let kind = chunk.kind;
-    match kind {
+    match chunk.kind {
         Kind::Video => {
             let entry = seek::entry(place as u64, chunk.start as u64, chunk.len as u64);
             store(index, count, entry);
             count + 1
         }
-        Kind::Audio => count,
-        Kind::Other => count,
-        Kind::End => count,
+        Kind::Audio | Kind::Other | Kind::End => count,
     }
 }
 
@@ -52,53 +48,37 @@ fn put_entries(index: &mut [[u64; 3]], container: &[u8], start: usize, reading: 
     let mut at = start;
     let mut count: usize = 0;
     let mut place: usize = 0;
-    loop {
-        match chunk::chunk_at(container, at, reading) {
-            ChunkStep::Over => {
-                return count;
-            }
-            ChunkStep::Found(chunk) => {
-                let kind = chunk.kind;
-                let with = put_entry(index, count, place, chunk);
-                count = with;
-                place += walk::video_in(kind, chunk.len);
-                at = chunk.next;
-            }
-            ChunkStep::Refused(_) => {
-                return count;
-            }
-        }
+    while let Ok(Some(chunk)) = chunk::chunk_at(container, at, reading) {
+        count = put_entry(index, count, place, chunk);
+        place += walk::video_in(chunk.kind, chunk.len);
+        at = chunk.next;
     }
+    count
 }
 
 // Builds the index of a film whose chunks begin at a place: its entries are counted first, into no list at all.
-fn index_chunks(index: &mut [[u64; 3]], container: &[u8], start: usize, reading: Applied) -> Listed
+fn index_chunks(
+    index: &mut [[u64; 3]],
+    container: &[u8],
+    start: usize,
+    reading: Applied,
+) -> Result<usize, Refusal>
     ensures { (result ≡ counted_in (length index.old) (length (entries_of (walk_from container.now reading start).chunks)))
         × (index.new ≡ entered_by index.old (entries_of (walk_from container.now reading start).chunks) result) }
 {
-    let count = put_entries(&mut index[0..0], container, start, reading);
-    let answer = list::counted_in(index.len(), count);
-    match answer {
-        Listed::Count(_) => {
-            put_entries(index, container, start, reading);
-            answer
-        }
-        Listed::Refused(_) => answer,
-    }
+    let entries = put_entries(&mut index[0..0], container, start, reading);
+    let count = list::counted_in(index.len(), entries)?;
+    put_entries(index, container, start, reading);
+    Ok(count)
 }
 
 // Builds the index of a film into a lent list, and replies how many entries it has. A refusal leaves the list as it was.
 pub fn build(container: &[u8], index: &mut [[u64; 3]]) -> ListReply
     ensures { Indexing container.now index.old result index.new }
 {
-    match film::survey(container, reading::as_original(AudioChoice::NotChosen)) {
-        Surveyed::Film {
-            header,
-            reading: applied,
-            count: _,
-            video: _,
-            audio: _,
-        } => list::list_reply(index_chunks(index, container, header.start, applied)),
-        Surveyed::Refused(refusal) => list::list_reply(Listed::Refused(refusal)),
-    }
+    let survey = match film::survey(container, reading::as_original(AudioChoice::NotChosen)) {
+        Ok(survey) => survey,
+        Err(refusal) => return list::list_reply(Err(refusal)),
+    };
+    list::list_reply(index_chunks(index, container, survey.header.start, survey.reading))
 }

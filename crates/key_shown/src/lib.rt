@@ -3,29 +3,21 @@
 // Request 13. Ours: the Rust has nothing of the kind.
 #![tactic(auto)]
 
-ghost use Rattle.std.specs.Prelude.{◌≡◌, max, cond, ltb};
+ghost use Rattle.std.specs.Prelude.{◌≡◌, cond, ltb};
 ghost use Rattle.walk.specs.Walks.{walk_from};
 ghost use Rattle.clip.specs.Clips.{bits_shown};
 ghost use Rattle.film.specs.Films.{film_of};
 ghost use Rattle.key_shown.specs.Shown.{shown_as, shown_in, shown_by};
 ghost use Rattle.key_shown.specs.KeyBits.{key_bits_in, key_bits_reply};
 
-use chunk::{Chunk, ChunkStep, Kind};
-use film::Surveyed;
+use chunk::{Chunk, Kind};
 use mask::SHORTEST_VIDEO;
 use reading::{Applied, Reading};
 use refusal::Refusal;
 
-// What a film answers about keys: the bits of a key that it shows, or why it is refused.
-#[derive(Clone, Copy)]
-pub enum KeyBits {
-    Shown(u64),
-    Refused(Refusal),
-}
-
 // The answer as C reads it. What has no meaning in it is 0.
 #[repr(C)]
-#[derive(Clone, Copy)]
+#[derive(Clone, Copy, Default)]
 pub struct KeyBitsReply {
     pub refused_at: usize,
     pub bits: u64,
@@ -36,34 +28,18 @@ pub struct KeyBitsReply {
 // The data type of a masked payload.
 const MASKED: u8 = 0;
 
-// The larger of two numbers.
-fn larger(a: usize, b: usize) -> usize
-    ensures { result ≡ max a b }
-{
-    if a < b {
-        return b;
-    }
-    a
-}
-
 // What a picture of so many bytes shows.
 fn picture_shows(len: usize) -> usize
     ensures { result ≡ cond (ltb len 0x240) 0 len }
 {
-    if len < SHORTEST_VIDEO {
-        return 0;
-    }
-    len
+    if len < SHORTEST_VIDEO { 0 } else { len }
 }
 
 // What a sound of so many bytes shows: nothing, unless it is ADX.
 fn sound_shows(adx: bool, len: usize) -> usize
     ensures { result ≡ cond adx len 0 }
 {
-    if adx {
-        return len;
-    }
-    0
+    if adx { len } else { 0 }
 }
 
 // What a payload of data type 0 shows, by its kind and length.
@@ -73,8 +49,7 @@ fn shown_as(adx: bool, kind: Kind, len: usize) -> usize
     match kind {
         Kind::Video => picture_shows(len),
         Kind::Audio => sound_shows(adx, len),
-        Kind::Other => 0,
-        Kind::End => 0,
+        Kind::Other | Kind::End => 0,
     }
 }
 
@@ -82,11 +57,10 @@ fn shown_as(adx: bool, kind: Kind, len: usize) -> usize
 fn shown_in(adx: bool, chunk: Chunk) -> usize
     ensures { result ≡ shown_in adx chunk }
 {
-    if chunk.data_type == MASKED {
-        let kind = chunk.kind;
-        return shown_as(adx, kind, chunk.len);
+    if chunk.data_type != MASKED {
+        return 0;
     }
-    0
+    shown_as(adx, chunk.kind, chunk.len)
 }
 
 // What the chunks from a place on show, those before a refusal where there is one. `adx` says whether the film's audio is
@@ -96,21 +70,11 @@ fn shown_from(container: &[u8], place: usize, reading: Applied, adx: bool) -> us
 {
     let mut at = place;
     let mut most: usize = 0;
-    loop {
-        match chunk::chunk_at(container, at, reading) {
-            ChunkStep::Over => {
-                return most;
-            }
-            ChunkStep::Found(chunk) => {
-                let with = larger(most, shown_in(adx, chunk));
-                most = with;
-                at = chunk.next;
-            }
-            ChunkStep::Refused(_) => {
-                return most;
-            }
-        }
+    while let Ok(Some(chunk)) = chunk::chunk_at(container, at, reading) {
+        most = most.max(shown_in(adx, chunk));
+        at = chunk.next;
     }
+    most
 }
 
 // The bits of a key that these chunks show.
@@ -121,45 +85,28 @@ pub fn bits_from(container: &[u8], place: usize, reading: Applied, adx: bool) ->
 }
 
 // The bits of a key that a film shows. Two keys that agree in them have the same two streams of it, and no other two do.
-pub fn key_bits(container: &[u8], reading: Reading) -> KeyBits
+pub fn key_bits(container: &[u8], reading: Reading) -> Result<u64, Refusal>
     ensures { result ≡ key_bits_in (film_of container.now reading) }
 {
-    match film::survey(container, reading) {
-        Surveyed::Film {
-            header,
-            reading: applied,
-            count: _,
-            video: _,
-            audio: _,
-        } => {
-            let codec = header.audio_codec;
-            let adx = unmasking::is_adx(codec);
-            KeyBits::Shown(bits_from(container, header.start, applied, adx))
-        }
-        Surveyed::Refused(refusal) => KeyBits::Refused(refusal),
-    }
+    let survey = film::survey(container, reading)?;
+    let adx = unmasking::is_adx(survey.header.audio_codec);
+    Ok(bits_from(container, survey.header.start, survey.reading, adx))
 }
 
 // An answer as C reads it.
-pub fn key_bits_reply(answer: KeyBits) -> KeyBitsReply
+pub fn key_bits_reply(answer: Result<u64, Refusal>) -> KeyBitsReply
     ensures { result ≡ key_bits_reply answer }
 {
     match answer {
-        KeyBits::Shown(bits) => KeyBitsReply {
-            refused_at: 0,
+        Ok(bits) => KeyBitsReply {
             bits,
-            number: 0,
-            unknown_type: 0,
+            ..KeyBitsReply::default()
         },
-        KeyBits::Refused(refusal) => {
-            let cause = refusal.cause;
-            let beside = refusal::beside_of(cause);
-            KeyBitsReply {
-                refused_at: refusal.place,
-                bits: 0,
-                number: refusal::number_of(cause),
-                unknown_type: beside.unknown_type,
-            }
-        }
+        Err(refusal) => KeyBitsReply {
+            refused_at: refusal.place,
+            number: refusal::number_of(refusal.cause),
+            unknown_type: refusal::beside_of(refusal.cause).unknown_type,
+            ..KeyBitsReply::default()
+        },
     }
 }

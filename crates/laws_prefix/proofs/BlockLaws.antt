@@ -1,4 +1,8 @@
 -- A block of s is the same in s with more behind it, and is refused alike, unless the bytes of s run out. Assumes nothing.
+use Rattle.std.specs.Prelude.{Result, Ok, Err}
+use Rattle.cell.specs.declared.Cell.{Cell}
+use Rattle.refusal.specs.declared.Refusal.{Refusal}
+use Rattle.layout.specs.declared.Layout.{Layout}
 use Prim.Native.Nat.{ℕ, ◌+◌, ◌-◌, ◌≤◌, ◌<◌}
 use mathlib.Core.Path.{◌≡◌, refl, ap, subst}
 use mathlib.Core.List.{List, ◌++◌}
@@ -15,16 +19,9 @@ use Rattle.refusal.specs.declared.Cause.TheVariants as cause
 use Rattle.reading.specs.declared.TableMode.{TableMode}
 use Rattle.reading.specs.declared.Reading.{Reading}
 use Rattle.signature.specs.Signatures.{CRID, SFV, SFA, metadata_end, filename}
-use Rattle.layout.specs.declared.LayoutAnswer.TheVariants.{NoLayout}
 use Rattle.layout.specs.Layouts.{layout_in}
-use Rattle.table.specs.declared.TableAnswer.{TableAnswer}
-use Rattle.table.specs.declared.TableAnswer.TheVariants.{Table, NoTable}
 use Rattle.table.specs.Tables.{table_at}
-use Rattle.lookup.specs.declared.Lookup.{Lookup}
-use Rattle.lookup.specs.declared.Lookup.TheVariants as lookup
 use Rattle.lookup.specs.Lookups.{cell_of, last_cell_of}
-use Rattle.block.specs.declared.BlockAnswer.{BlockAnswer}
-use Rattle.block.specs.declared.BlockAnswer.TheVariants.{Next, NoBlock}
 use Rattle.block.specs.declared.CodecBlock.{CodecBlock}
 use Rattle.block.specs.declared.NameBlock.{NameBlock}
 use Rattle.block.specs.declared.Ahead.{Ahead}
@@ -39,7 +36,7 @@ use Rattle.laws_prefix.proofs.TableLaws.{table_settled, cell_settled, last_settl
 
 module _ (s : List ℕ) (m : TableMode) where
   -- where a block has no room for a table's first bytes, no table is there
-  no_table : (t u : Bool) (why why' why'' : Cause) → is_laid (cond t (NoLayout why) (cond u (NoLayout why') (NoLayout why''))) ≡ false
+  no_table : (t u : Bool) (why why' why'' : Cause) → is_laid (cond t (Err why) (cond u (Err why') (Err why''))) ≡ false
   no_table true u why why' why'' = refl
   no_table false true why why' why'' = refl
   no_table false false why why' why'' = refl
@@ -52,7 +49,7 @@ module _ (s : List ℕ) (m : TableMode) where
       rw (lt-ltb (length t) 32 few) (no_table (ltb (length t) 4) (not (eqb (be32 t 0) 0x40555446)) cause.RanOut cause.NoTable cause.RanOut)
 
 module _ (s more : List ℕ) (how : Reading) where
-  abbrev undecided : BlockAnswer → Type 0
+  abbrev undecided : Result ℕ Refusal → Type 0
   undecided = block_open s how.tables
 
   -- bytes that run out leave the block open
@@ -72,7 +69,7 @@ module _ (s more : List ℕ) (how : Reading) where
             (cut_or undecided (ltb (length s - p) 8) (ltb (length (s ++ more) - p) 8) (refused_at p cause.RanOut) _ _ (ran_out p 8 (omega arith))
             (λ e8.
             let eight = ltb-false (length s - p) 8 e8 in
-            (le-ltb (length (s ++ more) - p) 8 (omega (arith, n, eight)), λ unless. ap (λ (size : ℕ). Next (p + 8 + size)) (be32_kept s more (p + 4) (omega arith)))))),
+            (le-ltb (length (s ++ more) - p) 8 (omega (arith, n, eight)), λ unless. ap (λ (size : ℕ). Ok (p + 8 + size)) (be32_kept s more (p + 4) (omega arith)))))),
       ))
 
   marked_settled : (marker : List ℕ) → 0x20 + length marker ≤ 0x40 → (unmarked : Cause) (p next : ℕ) → Settled undecided (marked_at s marker unmarked p next) (marked_at (s ++ more) marker unmarked p next)
@@ -85,9 +82,9 @@ module _ (s more : List ℕ) (how : Reading) where
       (le-ltb (length (s ++ more) - p) (0x20 + length marker) (omega (arith, n, room)), λ unless. rw (stands_kept s more marker (p + 0x20) (omega arith))))
 
   -- a block goes on as its head does
-  pub then_settled : (k k' : ℕ → BlockAnswer) (x x' : BlockAnswer) → Settled undecided x x' → ((next : ℕ) → Settled undecided (k next) (k' next)) → Settled undecided (and_then k x) (and_then k' x')
-  then_settled k k' (Next next) x' head rest unless = rw (head none) (rest next unless)
-  then_settled k k' (NoBlock refusal) x' head rest unless = ap (and_then k') (head unless)
+  pub then_settled : (k k' : ℕ → Result ℕ Refusal) (x x' : Result ℕ Refusal) → Settled undecided x x' → ((next : ℕ) → Settled undecided (k next) (k' next)) → Settled undecided (and_then k x) (and_then k' x')
+  then_settled k k' (Ok next) x' head rest unless = rw (head none) (rest next unless)
+  then_settled k k' (Err refusal) x' head rest unless = ap (and_then k') (head unless)
 
   pub marker_settled : (letters : ℕ) (missing : Cause) (marker : List ℕ) → 0x20 + length marker ≤ 0x40 → (unmarked : Cause) (p : ℕ)
       → Settled undecided (marker_block s letters missing marker unmarked p) (marker_block (s ++ more) letters missing marker unmarked p)
@@ -107,9 +104,9 @@ module _ (s more : List ℕ) (how : Reading) where
       ))
 
   module _ (p : ℕ) where
-    tabled_settled : (next : ℕ) (x x' : TableAnswer) → Settled (table_open (laid_at s how.tables p)) x x' → Settled undecided (tabled p next x) (tabled p next x')
-    tabled_settled next (Table l) x' same unless = ap (tabled p next) (same none)
-    tabled_settled next (NoTable refusal) x' same unless = ap (tabled p next) (same unless)
+    tabled_settled : (next : ℕ) (x x' : Result Layout Refusal) → Settled (table_open (laid_at s how.tables p)) x x' → Settled undecided (tabled p next x) (tabled p next x')
+    tabled_settled next (Ok l) x' same unless = ap (tabled p next) (same none)
+    tabled_settled next (Err refusal) x' same unless = ap (tabled p next) (same unless)
 
     pub table_block_settled : (letters : ℕ) (missing : Cause) → Settled undecided (table_block s how letters missing p) (table_block (s ++ more) how letters missing p)
     unfolding table_block
@@ -117,13 +114,13 @@ module _ (s more : List ℕ) (how : Reading) where
         then_settled _ _ (head_at s letters missing p) _ (head_settled letters missing p)
         (λ next. tabled_settled next (table_at s (p + 0x20) how.tables) _ (table_settled s more (p + 0x20) how.tables))
 
-    coded_settled : (next : ℕ) (x x' : Lookup) → Settled (cell_open (laid_at s how.tables p)) x x' → Settled (codec_open s how.tables) (coded p next x) (coded p next x')
-    coded_settled next (lookup.Holds cell) x' same unless = ap (coded p next) (same none)
-    coded_settled next (lookup.NoTable refusal) x' same unless = ap (coded p next) (same unless)
+    coded_settled : (next : ℕ) (x x' : Result Cell Refusal) → Settled (cell_open (laid_at s how.tables p)) x x' → Settled (codec_open s how.tables) (coded p next x) (coded p next x')
+    coded_settled next (Ok cell) x' same unless = ap (coded p next) (same none)
+    coded_settled next (Err refusal) x' same unless = ap (coded p next) (same unless)
 
-    then_coded : (k k' : ℕ → CodecBlock) (x x' : BlockAnswer) → Settled undecided x x' → ((next : ℕ) → Settled (codec_open s how.tables) (k next) (k' next)) → Settled (codec_open s how.tables) (then_codec k x) (then_codec k' x')
-    then_coded k k' (Next next) x' head rest unless = rw (head none) (rest next unless)
-    then_coded k k' (NoBlock refusal) x' head rest unless = ap (then_codec k') (head unless)
+    then_coded : (k k' : ℕ → Result CodecBlock Refusal) (x x' : Result ℕ Refusal) → Settled undecided x x' → ((next : ℕ) → Settled (codec_open s how.tables) (k next) (k' next)) → Settled (codec_open s how.tables) (then_codec k x) (then_codec k' x')
+    then_coded k k' (Ok next) x' head rest unless = rw (head none) (rest next unless)
+    then_coded k k' (Err refusal) x' head rest unless = ap (then_codec k') (head unless)
 
     pub codec_settled : (letters : ℕ) (missing : Cause) (column : List ℕ) → Settled (codec_open s how.tables) (codec_block s how letters missing column p) (codec_block (s ++ more) how letters missing column p)
     unfolding codec_block
@@ -131,13 +128,13 @@ module _ (s more : List ℕ) (how : Reading) where
         then_coded _ _ (head_at s letters missing p) _ (head_settled letters missing p)
         (λ next. coded_settled next (cell_of s (p + 0x20) how.tables column 0) _ (cell_settled s more (p + 0x20) how.tables column 0))
 
-  named_settled : (next : ℕ) (x x' : Lookup) → Settled (cell_open (laid_at s how.tables 0)) x x' → Settled (name_open s how.tables) (named 0 next x) (named 0 next x')
-  named_settled next (lookup.Holds cell) x' same unless = ap (named 0 next) (same none)
-  named_settled next (lookup.NoTable refusal) x' same unless = ap (named 0 next) (same unless)
+  named_settled : (next : ℕ) (x x' : Result Cell Refusal) → Settled (cell_open (laid_at s how.tables 0)) x x' → Settled (name_open s how.tables) (named 0 next x) (named 0 next x')
+  named_settled next (Ok cell) x' same unless = ap (named 0 next) (same none)
+  named_settled next (Err refusal) x' same unless = ap (named 0 next) (same unless)
 
-  then_named : (k k' : ℕ → NameBlock) (x x' : BlockAnswer) → Settled undecided x x' → ((next : ℕ) → Settled (name_open s how.tables) (k next) (k' next)) → Settled (name_open s how.tables) (then_name k x) (then_name k' x')
-  then_named k k' (Next next) x' head rest unless = rw (head none) (rest next unless)
-  then_named k k' (NoBlock refusal) x' head rest unless = ap (then_name k') (head unless)
+  then_named : (k k' : ℕ → Result NameBlock Refusal) (x x' : Result ℕ Refusal) → Settled undecided x x' → ((next : ℕ) → Settled (name_open s how.tables) (k next) (k' next)) → Settled (name_open s how.tables) (then_name k x) (then_name k' x')
+  then_named k k' (Ok next) x' head rest unless = rw (head none) (rest next unless)
+  then_named k k' (Err refusal) x' head rest unless = ap (then_name k') (head unless)
 
   pub name_settled : Settled (name_open s how.tables) (name_block s how) (name_block (s ++ more) how)
   unfolding name_block

@@ -1,4 +1,5 @@
 -- A chunk that is found in s with more behind it is found in s, if s holds what the chunk needs; if not, its bytes run out there. Assumes nothing.
+use Rattle.std.specs.Prelude.{Option, Some, None, Result, Ok, Err}
 use Prim.Native.Nat.{ℕ, ◌+◌, ◌-◌, ◌≤◌, ◌<◌}
 use mathlib.Core.Path.{◌≡◌, refl, sym, ap, ◌∙◌}
 use mathlib.Core.List.{List, ◌++◌}
@@ -16,8 +17,6 @@ use Rattle.reading.specs.declared.PayloadMode.{PayloadMode}
 use Rattle.reading.specs.declared.Applied.{Applied}
 use Rattle.chunk.specs.declared.Opening.{Opening}
 use Rattle.chunk.specs.declared.Chunk.{Chunk}
-use Rattle.chunk.specs.declared.ChunkStep.{ChunkStep}
-use Rattle.chunk.specs.declared.ChunkStep.TheVariants.{Over, Found, Refused}
 use Rattle.chunk.specs.Openings.{opening_at}
 use Rattle.chunk.specs.Chunks.{is_taken, offset_of, is_short, chunk_of, refused_at, held_at, taken_at, opened_at, chunk_at}
 use Rattle.chunk.proofs.CaseLaws.{over, cut, opened}
@@ -42,7 +41,7 @@ module _ (s more : List ℕ) (c : ℕ) where
     size = opening.block - (opening.header + opening.footer)
 
     -- a payload that is held with more behind s: not too small, present, and of this chunk
-    held : (offset : ℕ) → held_at (length (s ++ more)) c opening offset ≡ Found chunk
+    held : (offset : ℕ) → held_at (length (s ++ more)) c opening offset ≡ Ok (Some chunk)
         → (ltb opening.block (opening.header + opening.footer) ≡ false) × (chunk_of c opening offset size ≡ chunk)
     unfolding held_at
     held offset e =
@@ -55,13 +54,13 @@ module _ (s more : List ℕ) (c : ℕ) where
     unfolding chunk_of
     ends_there offset n e = ap (λ (made : Chunk). made.payload + made.len) e
 
-    held_kept : (offset : ℕ) → held_at (length (s ++ more)) c opening offset ≡ Found chunk → chunk.payload + chunk.len ≤ length s → held_at (length s) c opening offset ≡ Found chunk
+    held_kept : (offset : ℕ) → held_at (length (s ++ more)) c opening offset ≡ Ok (Some chunk) → chunk.payload + chunk.len ≤ length s → held_at (length s) c opening offset ≡ Ok (Some chunk)
     unfolding held_at
     held_kept offset e h =
         let a = held offset e in
-        rw (a.0, le-ltb (length s) (c + offset + size) (omega (arith, ends_there offset size a.1))) (ap Found a.1)
+        rw (a.0, le-ltb (length s) (c + offset + size) (omega (arith, ends_there offset size a.1))) (ap (λ (x : Chunk). Ok (Some x)) a.1)
 
-    held_cut : (offset : ℕ) → held_at (length (s ++ more)) c opening offset ≡ Found chunk → length s < chunk.payload + chunk.len → held_at (length s) c opening offset ≡ refused_at c RanOut
+    held_cut : (offset : ℕ) → held_at (length (s ++ more)) c opening offset ≡ Ok (Some chunk) → length s < chunk.payload + chunk.len → held_at (length s) c opening offset ≡ refused_at c RanOut
     unfolding held_at
     held_cut offset e h =
         let a = held offset e in
@@ -69,16 +68,16 @@ module _ (s more : List ℕ) (c : ℕ) where
 
     -- t: it is taken
     module _ (mode : PayloadMode) where
-      kept_by : (t : Bool) → cond t (taken_at (length (s ++ more)) mode c opening) (Found (chunk_of c opening 0x20 0)) ≡ Found chunk → chunk.payload + chunk.len ≤ length s
-          → cond t (taken_at (length s) mode c opening) (Found (chunk_of c opening 0x20 0)) ≡ Found chunk
+      kept_by : (t : Bool) → cond t (taken_at (length (s ++ more)) mode c opening) (Ok (Some (chunk_of c opening 0x20 0))) ≡ Ok (Some chunk) → chunk.payload + chunk.len ≤ length s
+          → cond t (taken_at (length s) mode c opening) (Ok (Some (chunk_of c opening 0x20 0))) ≡ Ok (Some chunk)
       unfolding taken_at
       kept_by true e h =
           let a = not_refused (is_short mode opening) c ShortHeader chunk _ e in
           rw a.0 (held_kept (offset_of mode opening) a.1 h)
       kept_by false e h = e
 
-      cut_by : c + 45 ≤ length s → (t : Bool) → cond t (taken_at (length (s ++ more)) mode c opening) (Found (chunk_of c opening 0x20 0)) ≡ Found chunk → length s < chunk.payload + chunk.len
-          → cond t (taken_at (length s) mode c opening) (Found (chunk_of c opening 0x20 0)) ≡ refused_at c RanOut
+      cut_by : c + 45 ≤ length s → (t : Bool) → cond t (taken_at (length (s ++ more)) mode c opening) (Ok (Some (chunk_of c opening 0x20 0))) ≡ Ok (Some chunk) → length s < chunk.payload + chunk.len
+          → cond t (taken_at (length s) mode c opening) (Ok (Some (chunk_of c opening 0x20 0))) ≡ refused_at c RanOut
       unfolding taken_at
       cut_by whole true e h =
           let a = not_refused (is_short mode opening) c ShortHeader chunk _ e in
@@ -89,8 +88,8 @@ module _ (s more : List ℕ) (c : ℕ) where
 
   -- ---- the chunk
 
-  module _ (chunk : Chunk) (reading : Applied) (e : chunk_at (s ++ more) reading c ≡ Found chunk) where
-    by_opening : c + 45 ≤ length s → opened_at (length (s ++ more)) reading c (opening_at s c) ≡ Found chunk
+  module _ (chunk : Chunk) (reading : Applied) (e : chunk_at (s ++ more) reading c ≡ Ok (Some chunk)) where
+    by_opening : c + 45 ≤ length s → opened_at (length (s ++ more)) reading c (opening_at s c) ≡ Ok (Some chunk)
     by_opening h =
         let n = longer s more in
         ap (opened_at (length (s ++ more)) reading c) (sym (opening_kept h)) ∙ opened (s ++ more) reading c (omega arith) ∙ e
@@ -98,7 +97,7 @@ module _ (s more : List ℕ) (c : ℕ) where
     starts : chunk.start ≡ c
     starts = (found (s ++ more) reading c chunk e).start
 
-    pub chunk_kept : need_of chunk ≤ length s → chunk_at s reading c ≡ Found chunk
+    pub chunk_kept : need_of chunk ≤ length s → chunk_at s reading c ≡ Ok (Some chunk)
     unfolding opened_at
     chunk_kept h =
         let whole : c + 45 ≤ length s = omega (arith, starts) in
@@ -116,17 +115,17 @@ module _ (s more : List ℕ) (c : ℕ) where
 -- ---- a chunk that is refused
 
 -- a step that refuses, if it does, at c
-abbrev AtPlace : ℕ → ChunkStep → Type 0
-AtPlace c Over = Unit
-AtPlace c (Found chunk) = Unit
-AtPlace c (Refused refusal) = refusal.place ≡ c
+abbrev AtPlace : ℕ → Result (Option Chunk) Refusal → Type 0
+AtPlace c (Ok None) = Unit
+AtPlace c (Ok (Some chunk)) = Unit
+AtPlace c (Err refusal) = refusal.place ≡ c
 
 module _ (container : List ℕ) (reading : Applied) (c : ℕ) where
-  tested : (t : Bool) (why : Cause) (next : ChunkStep) → AtPlace c next → AtPlace c (cond t (refused_at c why) next)
+  tested : (t : Bool) (why : Cause) (next : Result (Option Chunk) Refusal) → AtPlace c next → AtPlace c (cond t (refused_at c why) next)
   tested true why next h = refl
   tested false why next h = h
 
-  taken_or_not : (opening : Opening) (t : Bool) → AtPlace c (cond t (taken_at (length container) reading.payloads c opening) (Found (chunk_of c opening 0x20 0)))
+  taken_or_not : (opening : Opening) (t : Bool) → AtPlace c (cond t (taken_at (length container) reading.payloads c opening) (Ok (Some (chunk_of c opening 0x20 0))))
   unfolding taken_at held_at
   taken_or_not opening true =
       let offset = offset_of reading.payloads opening in
@@ -134,11 +133,11 @@ module _ (container : List ℕ) (reading : Applied) (c : ℕ) where
       let size = opening.block - spare in
       let chunk = chunk_of c opening offset size in
       tested (is_short reading.payloads opening) ShortHeader (held_at (length container) c opening offset)
-      (tested (ltb opening.block spare) TooSmall (cond (ltb (length container) (c + offset + size)) (refused_at c RanOut) (Found chunk))
-      (tested (ltb (length container) (c + offset + size)) RanOut (Found chunk) tt))
+      (tested (ltb opening.block spare) TooSmall (cond (ltb (length container) (c + offset + size)) (refused_at c RanOut) (Ok (Some chunk)))
+      (tested (ltb (length container) (c + offset + size)) RanOut (Ok (Some chunk)) tt))
   taken_or_not opening false = tt
 
-  over_or : (t : Bool) (next : ChunkStep) → AtPlace c next → AtPlace c (cond t Over next)
+  over_or : (t : Bool) (next : Result (Option Chunk) Refusal) → AtPlace c next → AtPlace c (cond t (Ok None) next)
   over_or true next h = tt
   over_or false next h = h
 
@@ -151,7 +150,7 @@ module _ (container : List ℕ) (reading : Applied) (c : ℕ) where
       (tested (ltb left 45) RanOut next (taken_or_not (opening_at container c) (takes reading (opening_at container c))))
 
   -- it carries its own start, and has its letters there
-  pub refused_there : (refusal : Refusal) → chunk_at container reading c ≡ Refused refusal → (refusal.place ≡ c) × (c + 4 ≤ length container)
+  pub refused_there : (refusal : Refusal) → chunk_at container reading c ≡ Err refusal → (refusal.place ≡ c) × (c + 4 ≤ length container)
   refused_there refusal e =
       ⊎_elim
       (λ (h : length container - c < 4). let f = over container reading c h in let z : ◌≡◌ {A = ℕ} 0 1 = cc in absurd (omega arith))

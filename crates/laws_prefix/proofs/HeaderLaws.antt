@@ -1,4 +1,7 @@
 -- The header of s is the header of s with more behind it, read or refused alike, unless the bytes of s run out: step by step, from the last to the first. Assumes nothing.
+use Rattle.std.specs.Prelude.{Option, None, Result, Ok, Err}
+use Rattle.header.specs.declared.Header.{Header}
+use Rattle.refusal.specs.declared.Refusal.{Refusal}
 use Prim.Native.Nat.{ℕ, ◌≤◌}
 use mathlib.Core.Path.{ap}
 use mathlib.Core.List.{List, ◌++◌}
@@ -10,16 +13,9 @@ use Rattle.refusal.specs.declared.Cause.TheVariants as cause
 use Rattle.reading.specs.declared.Reading.{Reading}
 use Rattle.signature.specs.Signatures.{SFV, SFA, header_end, metadata_end, mpeg_codec, audio_codec}
 use Rattle.film_name.specs.declared.Name.{Name}
-use Rattle.codec.specs.declared.Codec.{Codec}
-use Rattle.codec.specs.declared.Codec.TheVariants.{Absent}
-use Rattle.block.specs.declared.BlockAnswer.{BlockAnswer}
-use Rattle.block.specs.declared.BlockAnswer.TheVariants.{Next, NoBlock}
 use Rattle.block.specs.declared.CodecBlock.{CodecBlock}
-use Rattle.block.specs.declared.CodecBlock.TheVariants.{Coded, NoCodec}
 use Rattle.block.specs.declared.NameBlock.{NameBlock}
-use Rattle.block.specs.declared.NameBlock.TheVariants.{Named, NoName}
 use Rattle.block.specs.Blocks.{refused_at, marker_block, table_block, codec_block, name_block}
-use Rattle.header.specs.declared.HeaderAnswer.{HeaderAnswer}
 use Rattle.header.specs.Headers.{step8, step7_video, step7_table, step7, step6, step5, step4, refused, finish, after_codec, after_name, step3_audio, step3, step2, step1, header_of}
 use Rattle.laws_prefix.proofs.ByteLaws.{longer}
 use Rattle.laws_prefix.proofs.Settled.{Settled, block_open, codec_open, name_open, header_open, none}
@@ -61,34 +57,34 @@ module _ (s more : List ℕ) (how : Reading) where
 
   -- ---- 3 to 1
 
-  finish_settled : (name : Name) (video : Codec) (audio : Bool) (sound : Codec) (x x' : BlockAnswer) → Settled (block_open s how.tables) x x'
+  finish_settled : (name : Option Name) (video : Option ℕ) (audio : Bool) (sound : Option ℕ) (x x' : Result ℕ Refusal) → Settled (block_open s how.tables) x x'
       → Settled (header_open s how.tables) (finish name video audio sound x) (finish name video audio sound x')
-  finish_settled name video audio sound (Next start) x' same unless = ap (finish name video audio sound) (same none)
-  finish_settled name video audio sound (NoBlock refusal) x' same unless = ap (finish name video audio sound) (same unless)
+  finish_settled name video audio sound (Ok start) x' same unless = ap (finish name video audio sound) (same none)
+  finish_settled name video audio sound (Err refusal) x' same unless = ap (finish name video audio sound) (same unless)
 
-  after_codec_lem : (k k' : Codec → ℕ → HeaderAnswer) (x x' : CodecBlock) → Settled (codec_open s how.tables) x x' → ((codec : Codec) (next : ℕ) → Settled (header_open s how.tables) (k codec next) (k' codec next))
+  after_codec_lem : (k k' : Option ℕ → ℕ → Result Header Refusal) (x x' : Result CodecBlock Refusal) → Settled (codec_open s how.tables) x x' → ((codec : Option ℕ) (next : ℕ) → Settled (header_open s how.tables) (k codec next) (k' codec next))
       → Settled (header_open s how.tables) (after_codec k x) (after_codec k' x')
-  after_codec_lem k k' (Coded codec next) x' same rest unless = rw (same none) (rest codec next unless)
-  after_codec_lem k k' (NoCodec refusal) x' same rest unless = ap (after_codec k') (same unless)
+  after_codec_lem k k' (Ok block) x' same rest unless = rw (same none) (rest block.codec block.next unless)
+  after_codec_lem k k' (Err refusal) x' same rest unless = ap (after_codec k') (same unless)
 
-  after_name_lem : (k k' : Name → ℕ → HeaderAnswer) (x x' : NameBlock) → Settled (name_open s how.tables) x x' → ((name : Name) (next : ℕ) → Settled (header_open s how.tables) (k name next) (k' name next))
+  after_name_lem : (k k' : Option Name → ℕ → Result Header Refusal) (x x' : Result NameBlock Refusal) → Settled (name_open s how.tables) x x' → ((name : Option Name) (next : ℕ) → Settled (header_open s how.tables) (k name next) (k' name next))
       → Settled (header_open s how.tables) (after_name k x) (after_name k' x')
-  after_name_lem k k' (Named name next) x' same rest unless = rw (same none) (rest name next unless)
-  after_name_lem k k' (NoName refusal) x' same rest unless = ap (after_name k') (same unless)
+  after_name_lem k k' (Ok block) x' same rest unless = rw (same none) (rest block.name block.next unless)
+  after_name_lem k k' (Err refusal) x' same rest unless = ap (after_name k') (same unless)
 
-  step3_audio_settled : (name : Name) (video : Codec) (p : ℕ) → Settled (header_open s how.tables) (step3_audio s how name video p) (step3_audio (s ++ more) how name video p)
+  step3_audio_settled : (name : Option Name) (video : Option ℕ) (p : ℕ) → Settled (header_open s how.tables) (step3_audio s how name video p) (step3_audio (s ++ more) how name video p)
   unfolding step3_audio
   step3_audio_settled name video p =
       after_codec_lem _ _ (codec_block s how SFA cause.NoAudio audio_codec p) _ (codec_settled s more how p SFA cause.NoAudio audio_codec)
       (λ sound next. finish_settled name video true sound (step4 s how true next) _ (step4_settled true next))
 
-  step3_settled : (name : Name) (video : Codec) (p : ℕ) → Settled (header_open s how.tables) (step3 s how name video p) (step3 (s ++ more) how name video p)
+  step3_settled : (name : Option Name) (video : Option ℕ) (p : ℕ) → Settled (header_open s how.tables) (step3 s how name video p) (step3 (s ++ more) how name video p)
   unfolding step3
   step3_settled name video p =
-      ahead_settled s more how (header_open s how.tables) (step3_audio s how name video p) (finish name video false Absent (step4 s how false p)) (refused p cause.RanOut) _ _ _ p (ran_out s more how p 4 (omega arith))
-      (step3_audio_settled name video p) (finish_settled name video false Absent (step4 s how false p) _ (step4_settled false p))
+      ahead_settled s more how (header_open s how.tables) (step3_audio s how name video p) (finish name video false None (step4 s how false p)) (refused p cause.RanOut) _ _ _ p (ran_out s more how p 4 (omega arith))
+      (step3_audio_settled name video p) (finish_settled name video false None (step4 s how false p) _ (step4_settled false p))
 
-  step2_settled : (name : Name) (p : ℕ) → Settled (header_open s how.tables) (step2 s how name p) (step2 (s ++ more) how name p)
+  step2_settled : (name : Option Name) (p : ℕ) → Settled (header_open s how.tables) (step2 s how name p) (step2 (s ++ more) how name p)
   unfolding step2
   step2_settled name p = after_codec_lem _ _ (codec_block s how SFV cause.NoVideo mpeg_codec p) _ (codec_settled s more how p SFV cause.NoVideo mpeg_codec) (step3_settled name)
 

@@ -1,4 +1,5 @@
 -- The promises of specs/Promises.antt, each under its name: a container is its beginning with the rest behind it. Assumes nothing.
+use Rattle.std.specs.Prelude.{Some, Ok}
 use Prim.Native.Nat.{ℕ, ◌≤◌}
 use mathlib.Core.Path.{◌≡◌, sym, ap, ◌∙◌}
 use mathlib.Core.List.{List, ◌++◌}
@@ -9,7 +10,6 @@ use Rattle.reading.specs.declared.Applied.{Applied}
 use Rattle.reading.specs.declared.Reading.{Reading}
 use Rattle.header.specs.Headers.{header_of}
 use Rattle.chunk.specs.declared.Chunk.{Chunk}
-use Rattle.chunk.specs.declared.ChunkStep.TheVariants.{Found}
 use Rattle.chunk.specs.Chunks.{chunk_at}
 use Rattle.laws_prefix.specs.Promises as promised
 use Rattle.laws_prefix.proofs.Settled.{Settled, header_open, none}
@@ -29,12 +29,12 @@ HeaderOfABeginning container n how header few e = same_answer container n how fe
 pub RefusalOfABeginning : promised.RefusalOfABeginning
 RefusalOfABeginning container n how refusal few other e = same_answer container n how few (rw e other) ∙ e
 
-module _ (container : List ℕ) (n : ℕ) (reading : Applied) (c : ℕ) (chunk : Chunk) (within : n ≤ length container) (e : chunk_at container reading c ≡ Found chunk) where
+module _ (container : List ℕ) (n : ℕ) (reading : Applied) (c : ℕ) (chunk : Chunk) (within : n ≤ length container) (e : chunk_at container reading c ≡ Ok (Some chunk)) where
   cut_there : length (take n container) ≡ n
   cut_there = length-take-le n container within
 
   -- the chunk in the beginning with the rest behind it
-  there : chunk_at (take n container ++ drop n container) reading c ≡ Found chunk
+  there : chunk_at (take n container ++ drop n container) reading c ≡ Ok (Some chunk)
   there = ap (λ (bytes : List ℕ). chunk_at bytes reading c) (take-append-drop n container) ∙ e
 
 pub ChunkOfABeginning : promised.ChunkOfABeginning

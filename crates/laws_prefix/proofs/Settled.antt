@@ -1,24 +1,18 @@
 -- What is read in a list and in the same list with more behind it agrees, an answer as well as a refusal, unless the bytes of the first run out. Assumes nothing.
+use Rattle.std.specs.Prelude.{Result, Ok, Err}
+use Rattle.header.specs.declared.Header.{Header}
+use Rattle.cell.specs.declared.Cell.{Cell}
+use Rattle.refusal.specs.declared.Refusal.{Refusal}
+use Rattle.refusal.specs.declared.Cause.{Cause}
+use Rattle.layout.specs.declared.Layout.{Layout}
 use Prim.Native.Nat.{ℕ}
 use mathlib.Core.Path.{◌≡◌, refl}
 use mathlib.Core.List.{List}
 use mathlib.Core.Bool.{Bool, true, false, cond}
 use Rattle.refusal.specs.Numbers.{number_of}
 use Rattle.reading.specs.declared.TableMode.{TableMode}
-use Rattle.layout.specs.declared.LayoutAnswer.{LayoutAnswer}
-use Rattle.layout.specs.declared.LayoutAnswer.TheVariants.{Laid, NoLayout}
-use Rattle.table.specs.declared.TableAnswer.{TableAnswer}
-use Rattle.table.specs.declared.TableAnswer.TheVariants.{Table, NoTable}
-use Rattle.lookup.specs.declared.Lookup.{Lookup}
-use Rattle.lookup.specs.declared.Lookup.TheVariants as lookup
-use Rattle.block.specs.declared.BlockAnswer.{BlockAnswer}
-use Rattle.block.specs.declared.BlockAnswer.TheVariants.{Next, NoBlock}
 use Rattle.block.specs.declared.CodecBlock.{CodecBlock}
-use Rattle.block.specs.declared.CodecBlock.TheVariants.{Coded, NoCodec}
 use Rattle.block.specs.declared.NameBlock.{NameBlock}
-use Rattle.block.specs.declared.NameBlock.TheVariants.{Named, NoName}
-use Rattle.header.specs.declared.HeaderAnswer.{HeaderAnswer}
-use Rattle.header.specs.declared.HeaderAnswer.TheVariants.{Read, Refused}
 use Rattle.laws_prefix.specs.Needs.{Open}
 
 -- by which answers are open: those that more bytes can change
@@ -38,35 +32,35 @@ module _ {A : Type 0} (undecided : A → Type 0) where
 
 -- ---- the open answers: none that accepts
 
-abbrev pub layout_open : LayoutAnswer → Type 0
-layout_open (Laid l) = ⊥
-layout_open (NoLayout why) = number_of why ≡ 1
+abbrev pub layout_open : Result Layout Cause → Type 0
+layout_open (Ok l) = ⊥
+layout_open (Err why) = number_of why ≡ 1
 
 -- of a table that is there, or not
-abbrev pub table_open : Bool → TableAnswer → Type 0
-table_open laid (Table l) = ⊥
-table_open laid (NoTable refusal) = (number_of refusal.cause ≡ 1) × (laid ≡ false)
+abbrev pub table_open : Bool → Result Layout Refusal → Type 0
+table_open laid (Ok l) = ⊥
+table_open laid (Err refusal) = (number_of refusal.cause ≡ 1) × (laid ≡ false)
 
-abbrev pub cell_open : Bool → Lookup → Type 0
-cell_open laid (lookup.Holds cell) = ⊥
-cell_open laid (lookup.NoTable refusal) = (number_of refusal.cause ≡ 1) × (laid ≡ false)
+abbrev pub cell_open : Bool → Result Cell Refusal → Type 0
+cell_open laid (Ok cell) = ⊥
+cell_open laid (Err refusal) = (number_of refusal.cause ≡ 1) × (laid ≡ false)
 
 module _ (s : List ℕ) (m : TableMode) where
-  abbrev pub block_open : BlockAnswer → Type 0
-  block_open (Next next) = ⊥
-  block_open (NoBlock refusal) = Open s m refusal
+  abbrev pub block_open : Result ℕ Refusal → Type 0
+  block_open (Ok next) = ⊥
+  block_open (Err refusal) = Open s m refusal
 
-  abbrev pub codec_open : CodecBlock → Type 0
-  codec_open (Coded codec next) = ⊥
-  codec_open (NoCodec refusal) = Open s m refusal
+  abbrev pub codec_open : Result CodecBlock Refusal → Type 0
+  codec_open (Ok block) = ⊥
+  codec_open (Err refusal) = Open s m refusal
 
-  abbrev pub name_open : NameBlock → Type 0
-  name_open (Named name next) = ⊥
-  name_open (NoName refusal) = Open s m refusal
+  abbrev pub name_open : Result NameBlock Refusal → Type 0
+  name_open (Ok block) = ⊥
+  name_open (Err refusal) = Open s m refusal
 
-  abbrev pub header_open : HeaderAnswer → Type 0
-  header_open (Read header) = ⊥
-  header_open (Refused refusal) = Open s m refusal
+  abbrev pub header_open : Result Header Refusal → Type 0
+  header_open (Ok header) = ⊥
+  header_open (Err refusal) = Open s m refusal
 
 pub none : ⊥ → ⊥
 none e = e

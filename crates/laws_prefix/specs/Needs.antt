@@ -1,10 +1,10 @@
 -- What a chunk needs of a container, and a table. Ours, beyond the rules: it says of each beginning whether the chunk is found in it, and whether more bytes can change a refusal.
-use Rattle.std.specs.Prelude.{ℕ, ◌+◌, max, ◌≡◌, List, Bool, true, false, drop}
+use Rattle.std.specs.Prelude.{ℕ, ◌+◌, max, ◌≡◌, List, Bool, true, false, drop, Result, Ok, Err}
+use Rattle.refusal.specs.declared.Cause.{Cause}
+use Rattle.layout.specs.declared.Layout.{Layout}
 use Rattle.refusal.specs.declared.Refusal.{Refusal}
 use Rattle.refusal.specs.Numbers.{number_of}
 use Rattle.reading.specs.declared.TableMode.{TableMode}
-use Rattle.layout.specs.declared.LayoutAnswer.{LayoutAnswer}
-use Rattle.layout.specs.declared.LayoutAnswer.TheVariants.{Laid, NoLayout}
 use Rattle.layout.specs.Layouts.{layout_in}
 use Rattle.chunk.specs.declared.Chunk.{Chunk}
 
@@ -12,9 +12,9 @@ use Rattle.chunk.specs.declared.Chunk.{Chunk}
 abbrev pub need_of : Chunk → ℕ
 need_of chunk = max (chunk.start + 45) (chunk.payload + chunk.len)
 
-abbrev pub is_laid : LayoutAnswer → Bool
-is_laid (Laid layout) = true
-is_laid (NoLayout why) = false
+abbrev pub is_laid : Result Layout Cause → Bool
+is_laid (Ok layout) = true
+is_laid (Err why) = false
 
 -- the block at p has a table, and all bytes of it are there: what is refused of such a table is refused with more bytes behind it too
 abbrev pub laid_at : List ℕ → TableMode → ℕ → Bool

@@ -1,4 +1,5 @@
--- The cases of a layout, one for each return of the code, in the order of the refusals; and what a layout that was read is known to have. Assumes nothing.
+-- A slice that is too short for a layout, and what a layout that was read is known to have. Assumes nothing.
+use Rattle.std.specs.Prelude.{Result, Ok, Err}
 use mathlib.Core.Path.{◌≡◌, refl, ap}
 use mathlib.Core.List.{List}
 use mathlib.Core.Bool.{Bool, true, false, not, cond}
@@ -6,74 +7,26 @@ use Prim.Native.Nat.{ℕ, ◌+◌, ◌-◌, ◌≤◌, ◌<◌}
 use native.Mathlib.Omega.{arith}
 use lib.ListN.{length, take, drop}
 use lib.Dec.{ltb, eqb}
-use borrow.Author.Tests.{eq-eqb, ne_eqb, lt-ltb, le-ltb, ltb-false}
+use borrow.Author.Tests.{lt-ltb, ltb-false}
 use Rattle.word.specs.Numbers.{be16, be32}
 use Rattle.reading.specs.declared.TableMode.{TableMode}
 use Rattle.refusal.specs.declared.Cause.{Cause}
 use Rattle.refusal.specs.declared.Cause.TheVariants as cause
 use Rattle.layout.specs.declared.Layout.{Layout}
-use Rattle.layout.specs.declared.LayoutAnswer.{LayoutAnswer}
-use Rattle.layout.specs.declared.LayoutAnswer.TheVariants.{Laid, NoLayout}
 use Rattle.layout.specs.Layouts.{laid_in, counted_in, layout_in, body_of}
 
--- ---- the counts
-
-module _ (t : List ℕ) (m : TableMode) (size : ℕ) where
-  pub many_columns : 64 < be16 t 24 → NoLayout cause.TooMany ≡ counted_in t m size
-  unfolding counted_in
-  many_columns h = rw (lt-ltb 64 (be16 t 24) h)
-
-  module _ (few : be16 t 24 ≤ 64) where
-    pub many_rows : 256 < be32 t 28 → NoLayout cause.TooMany ≡ counted_in t m size
-    unfolding counted_in
-    many_rows h = rw (le-ltb 64 (be16 t 24) few, lt-ltb 256 (be32 t 28) h)
-
-    pub laid : be32 t 28 ≤ 256 → Laid (laid_in t m size) ≡ counted_in t m size
-    unfolding counted_in
-    laid h = rw (le-ltb 64 (be16 t 24) few, le-ltb 256 (be32 t 28) h)
-
--- ---- what stands before them
-
-module _ (t : List ℕ) (m : TableMode) where
-  pub short : length t < 4 → NoLayout cause.RanOut ≡ layout_in t m
-  unfolding layout_in
-  short h = rw (lt-ltb (length t) 4 h)
-
-  module _ (four : 4 ≤ length t) where
-    pub unsigned : (be32 t 0 ≡ 0x40555446 → ⊥) → NoLayout cause.NoTable ≡ layout_in t m
-    unfolding layout_in
-    unsigned h = rw (le-ltb (length t) 4 four, ne_eqb (be32 t 0) 0x40555446 h)
-
-    module _ (sign : be32 t 0 ≡ 0x40555446) where
-      pub cut : length t < 32 → NoLayout cause.RanOut ≡ layout_in t m
-      unfolding layout_in
-      cut h = rw (le-ltb (length t) 4 four, eq-eqb (be32 t 0) 0x40555446 sign, lt-ltb (length t) 32 h)
-
-      module _ (head : 32 ≤ length t) where
-        pub small : be32 t 4 < 24 → NoLayout cause.TooSmall ≡ layout_in t m
-        unfolding layout_in
-        small h = rw (le-ltb (length t) 4 four, eq-eqb (be32 t 0) 0x40555446 sign, le-ltb (length t) 32 head, lt-ltb (be32 t 4) 24 h)
-
-        module _ (large : 24 ≤ be32 t 4) where
-          pub bodiless : length t < 32 + (be32 t 4 - 24) → NoLayout cause.RanOut ≡ layout_in t m
-          unfolding layout_in
-          bodiless h =
-              rw
-              (le-ltb (length t) 4 four, eq-eqb (be32 t 0) 0x40555446 sign, le-ltb (length t) 32 head, le-ltb (be32 t 4) 24 large, lt-ltb (length t) (32 + (be32 t 4 - 24)) h)
-
-          pub whole : 32 + (be32 t 4 - 24) ≤ length t → counted_in t m (be32 t 4 - 24) ≡ layout_in t m
-          unfolding layout_in
-          whole h =
-              rw
-              (le-ltb (length t) 4 four, eq-eqb (be32 t 0) 0x40555446 sign, le-ltb (length t) 32 head, le-ltb (be32 t 4) 24 large, le-ltb (length t) (32 + (be32 t 4 - 24)) h)
+-- fewer bytes than the signature has
+pub short : (t : List ℕ) (m : TableMode) → length t < 4 → Err cause.RanOut ≡ layout_in t m
+unfolding layout_in
+short t m h = rw (lt-ltb (length t) 4 h)
 
 -- ---- a layout that was read
 
-unrefused : (b : Bool) (why : Cause) (l : Layout) (next : LayoutAnswer) → cond b (NoLayout why) next ≡ Laid l → (b ≡ false) × (next ≡ Laid l)
+unrefused : (b : Bool) (why : Cause) (l : Layout) (next : Result Layout Cause) → cond b (Err why) next ≡ Ok l → (b ≡ false) × (next ≡ Ok l)
 unrefused true why l next e = let z : ◌≡◌ {A = ℕ} 0 1 = cc in absurd (omega arith)
 unrefused false why l next e = (refl, e)
 
-counted_sound : (t : List ℕ) (m : TableMode) (size : ℕ) (l : Layout) → counted_in t m size ≡ Laid l → (l.columns ≤ 64) × (l.rows ≤ 256) × (size ≡ l.size)
+counted_sound : (t : List ℕ) (m : TableMode) (size : ℕ) (l : Layout) → counted_in t m size ≡ Ok l → (l.columns ≤ 64) × (l.rows ≤ 256) × (size ≡ l.size)
 unfolding counted_in
 counted_sound t m size l e =
     let a = unrefused (ltb 64 (be16 t 24)) cause.TooMany l _ e in
@@ -84,7 +37,7 @@ counted_sound t m size l e =
     (rw columns at (ltb-false 64 (be16 t 24) a.0), rw rows at (ltb-false 256 (be32 t 28) b.0), ap (λ (x : Layout). x.size) is)
 
 -- its counts are within the limits, its size is that of the header, and its body is there
-pub sound : (t : List ℕ) (m : TableMode) (l : Layout) → layout_in t m ≡ Laid l
+pub sound : (t : List ℕ) (m : TableMode) (l : Layout) → layout_in t m ≡ Ok l
     → (l.columns ≤ 64) × (l.rows ≤ 256) × (be32 t 4 ≡ l.size + 24) × (32 + l.size ≤ length t)
 unfolding layout_in
 sound t m l e =

@@ -9,7 +9,8 @@ use reading::TableMode;
 use refusal::Cause;
 
 // What a table's header says, as far as anything depends on it, and how its columns are read.
-#[derive(Clone, Copy)]
+// No ghost field keeps its limits: `cell::read_cell` and `column::read_column`, which docs/CONTRACTS.md names, take any layout.
+#[derive(Clone, Copy, Debug, PartialEq, Eq)]
 pub struct Layout {
     // The bytes of the body.
     pub size: usize,
@@ -22,13 +23,6 @@ pub struct Layout {
     // The data offset.
     pub blobs: u32,
     pub mode: TableMode,
-}
-
-// A layout, or why there is none.
-#[derive(Clone, Copy)]
-pub enum LayoutAnswer {
-    Laid(Layout),
-    NoLayout(Cause),
 }
 
 // The header's bytes. The body follows them.
@@ -63,33 +57,30 @@ const MOST_COLUMNS: usize = 64;
 const MOST_ROWS: usize = 256;
 
 // Where the rows start in a body of a size. Before the body there is nothing to read, as there is nothing past its end.
-fn start_of(size: usize, offset: usize) -> u32
-    requires { (size < 2 ^ 32) × (offset < 2 ^ 16) }
+fn start_of(size: usize, offset: usize) -> usize
     ensures { result ≡ start_of size offset }
 {
-    if offset < BODY {
-        return size as u32;
-    }
-    (offset - BODY) as u32
+    offset.checked_sub(BODY).unwrap_or(size)
 }
 
 // The layout of a table whose body is there.
-fn counted(table: &[u8], mode: TableMode, size: usize) -> LayoutAnswer
+#[tactic(auto, unfolding(crate::specs::Layouts::counted_in))]
+fn counted(table: &[u8], mode: TableMode, size: usize) -> Result<Layout, Cause>
     requires { size < 2 ^ 32 }
     ensures { result ≡ counted_in table.now mode size }
 {
     let columns = word::read16(table, COLUMNS);
     if MOST_COLUMNS < columns {
-        return LayoutAnswer::NoLayout(Cause::TooMany);
+        return Err(Cause::TooMany);
     }
     let rows = word::read32(table, ROWS);
     if MOST_ROWS < rows {
-        return LayoutAnswer::NoLayout(Cause::TooMany);
+        return Err(Cause::TooMany);
     }
-    let start = start_of(size, word::read16(table, ROW_OFFSET));
+    let start = start_of(size, word::read16(table, ROW_OFFSET)) as u32;
     let strings = word::read32(table, STRING_OFFSET) as u32;
     let blobs = word::read32(table, DATA_OFFSET) as u32;
-    LayoutAnswer::Laid(Layout {
+    Ok(Layout {
         size,
         columns,
         rows,
@@ -101,25 +92,26 @@ fn counted(table: &[u8], mode: TableMode, size: usize) -> LayoutAnswer
 }
 
 // The layout of the table that a slice begins with, or why it is refused before its columns are read.
-pub fn read_layout(table: &[u8], mode: TableMode) -> LayoutAnswer
+#[tactic(auto, unfolding(crate::specs::Layouts::layout_in))]
+pub fn read_layout(table: &[u8], mode: TableMode) -> Result<Layout, Cause>
     ensures { result ≡ layout_in table.now mode }
 {
     if table.len() < LETTERS {
-        return LayoutAnswer::NoLayout(Cause::RanOut);
+        return Err(Cause::RanOut);
     }
     if word::read32(table, 0) != SIGNATURE {
-        return LayoutAnswer::NoLayout(Cause::NoTable);
+        return Err(Cause::NoTable);
     }
     if table.len() < HEADER {
-        return LayoutAnswer::NoLayout(Cause::RanOut);
+        return Err(Cause::RanOut);
     }
     let size = word::read32(table, SIZE);
     if size < BODY {
-        return LayoutAnswer::NoLayout(Cause::TooSmall);
+        return Err(Cause::TooSmall);
     }
     let body = size - BODY;
     if table.len() < HEADER + body {
-        return LayoutAnswer::NoLayout(Cause::RanOut);
+        return Err(Cause::RanOut);
     }
     counted(table, mode, body)
 }

@@ -6,13 +6,6 @@ ghost use Rattle.lent.specs.Written.{written_in, size_reply};
 
 use refusal::{Cause, Refusal};
 
-// How many bytes there are to write, or were written; or why none.
-#[derive(Clone, Copy)]
-pub enum Written {
-    Size(usize),
-    Refused(Refusal),
-}
-
 // The answer as C reads it. What has no meaning in it is 0.
 #[repr(C)]
 #[derive(Clone, Copy)]
@@ -24,35 +17,35 @@ pub struct SizeReply {
 }
 
 // What is answered for an output of so many bytes, where so many are to be written.
-pub fn written_in(room: usize, planned: Written) -> Written
+pub fn written_in(room: usize, planned: Result<usize, Refusal>) -> Result<usize, Refusal>
     ensures { result ≡ written_in room planned }
 {
     match planned {
-        Written::Size(size) => {
+        Ok(size) => {
             if room < size {
-                return Written::Refused(Refusal {
+                return Err(Refusal {
                     cause: Cause::ShortRoom(size),
                     place: 0,
                 });
             }
-            Written::Size(size)
+            Ok(size)
         }
-        Written::Refused(refusal) => Written::Refused(refusal),
+        Err(refusal) => Err(refusal),
     }
 }
 
 // An answer as C reads it.
-pub fn size_reply(answer: Written) -> SizeReply
+pub fn size_reply(answer: Result<usize, Refusal>) -> SizeReply
     ensures { result ≡ size_reply answer }
 {
     match answer {
-        Written::Size(size) => SizeReply {
+        Ok(size) => SizeReply {
             refused_at: 0,
             size,
             number: 0,
             unknown_type: 0,
         },
-        Written::Refused(refusal) => {
+        Err(refusal) => {
             let cause = refusal.cause;
             let beside = refusal::beside_of(cause);
             SizeReply {

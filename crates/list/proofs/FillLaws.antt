@@ -1,5 +1,8 @@
 -- A loop that stores one record a turn: what it has stored, with what is left to store from here, is what the whole stores.
 -- Where it goes by the plan, that is what the listing leaves. Assumes nothing.
+use Rattle.std.specs.Prelude.{Option, Some, None, Result, Ok, Err}
+use Rattle.film.specs.declared.Surveyed.{Surveyed}
+use Rattle.refusal.specs.declared.Refusal.{Refusal}
 use Prim.Native.Nat.{ℕ, zero, suc, ◌+◌, ◌-◌, ◌<◌, ◌≤◌, ◌^◌}
 use mathlib.Core.Path.{◌≡◌, refl, sym, ap, ◌∙◌}
 use mathlib.Core.List.{List, [], ◌∷◌, map}
@@ -13,14 +16,10 @@ use Rattle.laws.proofs.Side.{side}
 use Rattle.reading.specs.declared.Reading.{Reading}
 use Rattle.reading.specs.declared.Applied.{Applied}
 use Rattle.chunk.specs.declared.Chunk.{Chunk}
-use Rattle.chunk.specs.declared.ChunkStep.{ChunkStep}
-use Rattle.chunk.specs.declared.ChunkStep.TheVariants.{Over, Found, Refused}
 use Rattle.chunk.specs.Chunks.{chunk_at}
 use Rattle.walk.specs.Walks.{Walk, walk_from}
 use Rattle.walk.proofs.WalkLaws.{walk_over, walk_found, walk_refused}
 use Rattle.header.specs.declared.Header.{Header}
-use Rattle.film.specs.declared.Surveyed.{Surveyed}
-use Rattle.film.specs.declared.Surveyed.TheVariants as survey
 use Rattle.film.specs.Films.{film, film_of, survey_of}
 use Rattle.film.proofs.FilmLaws.{surveyed_film}
 use Rattle.list.specs.declared.ChunkRecord.{ChunkRecord}
@@ -98,16 +97,16 @@ module _ (container : List ℕ) (reading : Applied) where
   abbrev Fills : ℕ → Type 0
   Fills left = (place i : ℕ) (list : List ChunkRecord) → length (chunks place) ≡ left → fill_for container reading left place i list ≡ sets list i (map record_of (chunks place))
 
-  fill_step : (left : ℕ) → Fills left → (place i : ℕ) (list : List ChunkRecord) (step : ChunkStep) → chunk_at container reading place ≡ step → length (chunks place) ≡ suc left
+  fill_step : (left : ℕ) → Fills left → (place i : ℕ) (list : List ChunkRecord) (step : Result (Option Chunk) Refusal) → chunk_at container reading place ≡ step → length (chunks place) ≡ suc left
       → fill_for container reading (suc left) place i list ≡ sets list i (map record_of (chunks place))
   unfolding fill_for step_at
-  fill_step left ih place i list Over e h = absurd (omega (arith, h, ap size (walk_over container reading place e)))
-  fill_step left ih place i list (Found chunk) e h =
+  fill_step left ih place i list (Ok None) e h = absurd (omega (arith, h, ap size (walk_over container reading place e)))
+  fill_step left ih place i list (Ok (Some chunk)) e h =
       let f = walk_found container reading place chunk e in
       let g : fill_for container reading (suc left) place i list ≡ sets list i (map record_of (chunk ∷ chunks chunk.next)) =
       rw e (ih chunk.next (suc i) (set list i (record_of chunk)) (omega (arith, h, ap size f))) in
       g ∙ sym (ap (λ (walk : Walk). sets list i (map record_of walk.chunks)) f)
-  fill_step left ih place i list (Refused refusal) e h = absurd (omega (arith, h, ap size (walk_refused container reading place refusal e)))
+  fill_step left ih place i list (Err refusal) e h = absurd (omega (arith, h, ap size (walk_refused container reading place refusal e)))
 
   fills : (left : ℕ) → Fills left
   unfolding fill_for
@@ -117,17 +116,17 @@ module _ (container : List ℕ) (reading : Applied) where
 -- ---- by the plan
 
 -- a plan counts no more records than there is room for
-few : (room : ℕ) (s : Surveyed) → records_in (listed_in room s) ≤ room
-few room (survey.Film header applied count video audio) = ⊎_elim (λ h. rw (lt-ltb room count h) (omega arith)) (λ h. rw (le-ltb room count h) (omega arith)) (side room count)
-few room (survey.Refused refusal) = omega arith
+few : (room : ℕ) (s : Result Surveyed Refusal) → records_in (listed_in room s) ≤ room
+few room (Ok survey) = ⊎_elim (λ h. rw (lt-ltb room survey.count h) (omega arith)) (λ h. rw (le-ltb room survey.count h) (omega arith)) (side room survey.count)
+few room (Err refusal) = omega arith
 
 module _ (container : List ℕ) (reading : Reading) (list : List ChunkRecord) where
-  abbrev Leaves : Surveyed → Type 0
+  abbrev Leaves : Result Surveyed Refusal → Type 0
   Leaves s = fill_for container (reading_in reading s) (records_in (listed_in (length list) s)) (start_in s) 0 list ≡ filled_by (listed_in (length list) s) list (records_of (film_of container reading))
 
   -- of a film of so many chunks
   leaves_film : (header : Header) (applied : Applied) (chunks : List Chunk) (video audio : ℕ) → chunks ≡ (walk_from container applied header.start).chunks
-      → film_of container reading ≡ film header applied chunks → Leaves (survey.Film header applied (length chunks) video audio)
+      → film_of container reading ≡ film header applied chunks → Leaves (Ok (record { header = header; reading = applied; count = length chunks; video = video; audio = audio }))
   unfolding fill_for
   leaves_film header applied chunks video audio w e =
       rw e (
@@ -136,13 +135,13 @@ module _ (container : List ℕ) (reading : Reading) (list : List ChunkRecord) wh
       (λ h. rw (le-ltb (length list) (length chunks) h) (rw w (fills container applied _ header.start 0 list refl)))
       (side (length list) (length chunks)))
 
-  leaves : (s : Surveyed) → survey_of (film_of container reading) ≡ s → Leaves s
+  leaves : (s : Result Surveyed Refusal) → survey_of (film_of container reading) ≡ s → Leaves s
   unfolding fill_for
-  leaves (survey.Film header applied count video audio) e =
-      let f = surveyed_film container reading header applied count video audio e in
-      let n : length (walk_from container applied header.start).chunks ≡ count = cc in
-      rw (← n) (leaves_film header applied _ video audio refl f)
-  leaves (survey.Refused refusal) e = refl
+  leaves (Ok survey) e =
+      let f = surveyed_film container reading survey.header survey.reading survey.count survey.video survey.audio e in
+      let n : length (walk_from container survey.reading survey.header.start).chunks ≡ survey.count = cc in
+      rw (← n) (leaves_film survey.header survey.reading _ survey.video survey.audio refl f)
+  leaves (Err refusal) e = refl
 
   -- the plan of a listing into this list
   abbrev pub planned : Plan

@@ -1,11 +1,11 @@
 -- A reply whose number is 0 is that of a count: every cause of a refusal has another number. Assumes nothing.
+use Rattle.std.specs.Prelude.{ℕ, Result, Ok, Err}
+use Rattle.refusal.specs.declared.Refusal.{Refusal}
 use mathlib.Core.Path.{◌≡◌, refl}
 use native.Mathlib.Omega.{arith}
 use Rattle.refusal.specs.declared.Cause.{Cause}
 use Rattle.refusal.specs.declared.Cause.TheVariants as cause
 use Rattle.refusal.specs.Numbers.{number_of}
-use Rattle.list.specs.declared.Listed.{Listed}
-use Rattle.list.specs.declared.Listed.TheVariants.{Count, Refused}
 use Rattle.list.specs.Listing.{list_reply}
 
 pub numbered : (why : Cause) → number_of why ≡ 0 → ⊥
@@ -32,6 +32,6 @@ numbered cause.NoBeginning e = omega arith
 numbered cause.BadTenants e = omega arith
 numbered cause.CodecAlone e = omega arith
 
-pub counted : (answer : Listed) → (list_reply answer).number ≡ 0 → answer ≡ Count (list_reply answer).count
-counted (Count n) e = refl
-counted (Refused refusal) e = absurd (numbered refusal.cause e)
+pub counted : (answer : Result ℕ Refusal) → (list_reply answer).number ≡ 0 → answer ≡ Ok (list_reply answer).count
+counted (Ok n) e = refl
+counted (Err refusal) e = absurd (numbered refusal.cause e)

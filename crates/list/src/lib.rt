@@ -8,7 +8,7 @@ ghost use Rattle.reading.specs.Choices.{reading_by};
 ghost use Rattle.list.specs.Listing.{counted_in, listed_in, list_reply, record_of};
 ghost use Rattle.list.specs.Filling.{records_in, start_in, reading_in, plan_of, no_record, step_at};
 
-use chunk::{Chunk, ChunkStep};
+use chunk::Chunk;
 use film::Surveyed;
 use reading::{Applied, Reading, ReadingBytes};
 use refusal::{Cause, Refusal};
@@ -24,13 +24,6 @@ pub struct ChunkRecord {
     pub channel: u8,
     pub offset: u32,
     pub len: usize,
-}
-
-// What a listing answers: how many chunks there are, or why it is refused.
-#[derive(Clone, Copy)]
-pub enum Listed {
-    Count(usize),
-    Refused(Refusal),
 }
 
 // The answer as C reads it. What has no meaning in it is 0.
@@ -61,46 +54,35 @@ pub struct RecordStep {
 }
 
 // What is answered where so many records are to go into a list: their count, or that the list is too short.
-pub fn counted_in(room: usize, count: usize) -> Listed
+pub fn counted_in(room: usize, count: usize) -> Result<usize, Refusal>
     ensures { result ≡ counted_in room count }
 {
     if room < count {
-        return Listed::Refused(Refusal {
-            cause: Cause::ShortList(count),
-            place: 0,
-        });
+        return refusal::refused(Cause::ShortList(count), 0);
     }
-    Listed::Count(count)
+    Ok(count)
 }
 
 // What a listing into a list of so many records answers on a film.
-fn listed_in(room: usize, survey: Surveyed) -> Listed
+fn listed_in(room: usize, survey: Result<Surveyed, Refusal>) -> Result<usize, Refusal>
     ensures { result ≡ listed_in room survey }
 {
-    match survey {
-        Surveyed::Film {
-            header: _,
-            reading: _,
-            count,
-            video: _,
-            audio: _,
-        } => counted_in(room, count),
-        Surveyed::Refused(refusal) => Listed::Refused(refusal),
-    }
+    let survey = survey?;
+    counted_in(room, survey.count)
 }
 
 // An answer as C reads it.
-pub fn list_reply(answer: Listed) -> ListReply
+pub fn list_reply(answer: Result<usize, Refusal>) -> ListReply
     ensures { result ≡ list_reply answer }
 {
     match answer {
-        Listed::Count(count) => ListReply {
+        Ok(count) => ListReply {
             refused_at: 0,
             count,
             number: 0,
             unknown_type: 0,
         },
-        Listed::Refused(refusal) => {
+        Err(refusal) => {
             let cause = refusal.cause;
             let beside = refusal::beside_of(cause);
             ListReply {
@@ -114,44 +96,32 @@ pub fn list_reply(answer: Listed) -> ListReply
 }
 
 // How many records there are to make: none where the listing is refused.
-fn records_in(answer: Listed) -> usize
+fn records_in(answer: Result<usize, Refusal>) -> usize
     ensures { result ≡ records_in answer }
 {
     match answer {
-        Listed::Count(count) => count,
-        Listed::Refused(_) => 0,
+        Ok(count) => count,
+        Err(_) => 0,
     }
 }
 
 // Where a film's chunks begin; 0 where it is refused.
-fn start_in(survey: Surveyed) -> usize
+fn start_in(survey: Result<Surveyed, Refusal>) -> usize
     ensures { result ≡ start_in survey }
 {
     match survey {
-        Surveyed::Film {
-            header,
-            reading: _,
-            count: _,
-            video: _,
-            audio: _,
-        } => header.start,
-        Surveyed::Refused(_) => 0,
+        Ok(survey) => survey.header.start,
+        Err(_) => 0,
     }
 }
 
 // How a film is read. Where it is refused, no audio is present.
-fn reading_in(asked: Reading, survey: Surveyed) -> Applied
+fn reading_in(asked: Reading, survey: Result<Surveyed, Refusal>) -> Applied
     ensures { result ≡ reading_in asked survey }
 {
     match survey {
-        Surveyed::Film {
-            header: _,
-            reading,
-            count: _,
-            video: _,
-            audio: _,
-        } => reading,
-        Surveyed::Refused(_) => reading::applied_to(false, asked),
+        Ok(survey) => survey.reading,
+        Err(_) => reading::applied_to(false, asked),
     }
 }
 
@@ -209,11 +179,11 @@ pub fn record_at(container: &[u8], place: usize, reading: Applied) -> RecordStep
     ensures { result ≡ step_at container.now reading place }
 {
     match chunk::chunk_at(container, place, reading) {
-        ChunkStep::Over => no_record(),
-        ChunkStep::Found(chunk) => RecordStep {
+        Ok(None) => no_record(),
+        Ok(Some(chunk)) => RecordStep {
             made: record_of(chunk),
             next: chunk.next,
         },
-        ChunkStep::Refused(_) => no_record(),
+        Err(_) => no_record(),
     }
 }

@@ -1,4 +1,5 @@
 -- One step of the search over the columns, and its end. Assumes nothing.
+use Rattle.std.specs.Prelude.{Option}
 use mathlib.Core.Path.{◌≡◌, refl, ap, ◌∙◌}
 use mathlib.Core.List.{List}
 use mathlib.Core.Bool.{Bool}
@@ -14,13 +15,13 @@ use Rattle.lookup.specs.Names.{spells}
 use Rattle.lookup.specs.Search.{mark_if, search_from}
 
 module _ (b : List ℕ) (l : Layout) (name : List ℕ) where
-  pub search_end : (n p q : ℕ) (best : Mark) → n ≤ 0 → search_from b l name n p q best ≡ record { mark = best; width = q }
+  pub search_end : (n p q : ℕ) (best : Option Mark) → n ≤ 0 → search_from b l name n p q best ≡ record { mark = best; width = q }
   unfolding search_from
   search_end zero p q best h = refl
   search_end (suc n) p q best h = absurd (not-suc-le-zero h)
 
   -- x is the type byte, r and w its bytes in the record and in a row, t the test of its name, m the mark then, as they were told
-  pub search_next : (n p q x r w : ℕ) (t : Bool) (best m : Mark) → 0 < n → x ≡ at b p → r ≡ in_record l.mode x → w ≡ in_row l.mode x
+  pub search_next : (n p q x r w : ℕ) (t : Bool) (best m : Option Mark) → 0 < n → x ≡ at b p → r ≡ in_record l.mode x → w ≡ in_row l.mode x
       → t ≡ spells b (l.strings + be32 b (p + 1) - 24) name → m ≡ mark_if t p q best
       → search_from b l name n p q best ≡ search_from b l name (n - 1) (p + r) (q + w) m
   unfolding search_from

@@ -1,5 +1,5 @@
 -- What a look-up promises. Each is proved under the same name in proofs/Promises.antt.
-use Rattle.std.specs.Prelude.{ℕ, ◌+◌, ◌-◌, ◌≤◌, ◌<◌, ◌≡◌, ◌⊎◌, List, Bool, true, false, length, drop}
+use Rattle.std.specs.Prelude.{ℕ, ◌+◌, ◌-◌, ◌≤◌, ◌<◌, ◌≡◌, ◌⊎◌, List, Bool, true, false, length, drop, Ok, Err}
 use Rattle.reading.specs.declared.TableMode.{TableMode}
 use Rattle.reading.specs.declared.TableMode.TheVariants.{Original, ZeroColumns}
 use Rattle.word.specs.Numbers.{be32}
@@ -7,12 +7,9 @@ use Rattle.layout.specs.declared.Layout.{Layout}
 use Rattle.layout.specs.Layouts.{layout_in, body_of}
 use Rattle.cell.specs.declared.Cell.{Cell}
 use Rattle.cell.specs.declared.Cell.TheVariants.{Nothing}
-use Rattle.table.specs.declared.TableAnswer.TheVariants.{Table}
 use Rattle.table.specs.Tables.{table_at}
 use Rattle.refusal.specs.declared.Refusal.{Refusal}
 use Rattle.table.specs.Promises.{known_in, is_of_atable}
-use Rattle.lookup.specs.declared.Lookup.TheVariants as lookup
-use Rattle.lookup.specs.declared.Lookup.TheVariants.{Holds}
 use Rattle.lookup.specs.declared.numbers.Line.TheVariants.{Row}
 use Rattle.lookup.specs.Names.{spells}
 use Rattle.lookup.specs.Lookups.{end_of_part, cell_of, last_cell_of}
@@ -21,7 +18,7 @@ use Rattle.lookup.specs.Numbers.{record_at, cell_by}
 -- A string or data part that is handed out lies within the slice, whatever the table says.
 abbrev pub PartsLieWithin : Type 0
 PartsLieWithin =
-    (bytes : List ℕ) (place : ℕ) (m : TableMode) (name : List ℕ) (row : ℕ) (cell : Cell) → cell_of bytes place m name row ≡ Holds cell
+    (bytes : List ℕ) (place : ℕ) (m : TableMode) (name : List ℕ) (row : ℕ) (cell : Cell) → cell_of bytes place m name row ≡ Ok cell
     → end_of_part cell ≤ length bytes
 
 -- Where no column has nibble 1 and all kinds are known, both modes give one answer, for every name and row, and for the last row.
@@ -46,12 +43,12 @@ pub record LastNamed (b : List ℕ) (l : Layout) (name : List ℕ) (k : ℕ) : T
 -- A look-up by name is the cell by number of the last column that has the name; where none has it, nothing.
 abbrev pub LookUpIsACell : Type 0
 LookUpIsACell =
-    (bytes : List ℕ) (place : ℕ) (m : TableMode) (name : List ℕ) (row : ℕ) (l : Layout) → table_at bytes place m ≡ Table l → row < l.rows
+    (bytes : List ℕ) (place : ℕ) (m : TableMode) (name : List ℕ) (row : ℕ) (l : Layout) → table_at bytes place m ≡ Ok l → row < l.rows
     → ((k : ℕ) × LastNamed (body_of (drop place bytes) l) l name k × (cell_of bytes place m name row ≡ cell_by bytes place m (Row row) k))
-    ⊎ (((k : ℕ) → k < l.columns → is_named (body_of (drop place bytes) l) l name k ≡ false) × (cell_of bytes place m name row ≡ Holds Nothing))
+    ⊎ (((k : ℕ) → k < l.columns → is_named (body_of (drop place bytes) l) l name k ≡ false) × (cell_of bytes place m name row ≡ Ok Nothing))
 
 -- A look-up is refused by 1, 3, 8, 9, 10 or 18, and by no other number.
 abbrev pub LookUpsRefuseByThese : Type 0
 LookUpsRefuseByThese =
-    (bytes : List ℕ) (place : ℕ) (m : TableMode) (name : List ℕ) (row : ℕ) (refusal : Refusal) → cell_of bytes place m name row ≡ lookup.NoTable refusal
+    (bytes : List ℕ) (place : ℕ) (m : TableMode) (name : List ℕ) (row : ℕ) (refusal : Refusal) → cell_of bytes place m name row ≡ Err refusal
     → is_of_atable refusal.cause ≡ true

@@ -4,41 +4,33 @@
 
 pub mod numbers;
 
-ghost use Rattle.std.specs.Prelude.{◌≡◌, ◌+◌, ◌-◌, ◌*◌, ◌≤◌, ◌<◌, ◌^◌, length};
+ghost use Rattle.std.specs.Prelude.{◌≡◌, ◌+◌, ◌-◌, ◌*◌, ◌≤◌, ◌<◌, ◌^◌, length, None};
 ghost use Rattle.word.specs.Numbers.{be32};
 ghost use Rattle.cell.specs.Cells.{cell_at};
 ghost use Rattle.column.specs.Storages.{cell_in};
 ghost use Rattle.column.specs.Columns.{column_at};
 ghost use Rattle.lookup.specs.Names.{spells};
 ghost use Rattle.lookup.specs.Search.{mark_if, search_from};
-ghost use Rattle.lookup.specs.Lookups.{column_cell, marked_cell, body_cell, end_of_part, end_of_answer, shifted, moved, shift_in, cell_from, cell_of, last_cell_of};
+ghost use Rattle.lookup.specs.Lookups.{column_cell, marked_cell, body_cell, end_of_part, end_of_answer, shifted, moved, shift_in, placed, cell_from, cell_of, last_cell_of};
 
-use cell::{Cell, CellAnswer};
-use column::{Column, ColumnAnswer, Storage};
+use cell::Cell;
+use column::{Column, Storage};
 use layout::Layout;
 use reading::TableMode;
 use refusal::{Cause, Refusal};
-use table::TableAnswer;
 
 // Where the last column of a name has its record, and its cell in a row.
-#[derive(Clone, Copy)]
-enum Mark {
-    Nowhere,
-    Marked { entry: usize, offset: usize },
+#[derive(Clone, Copy, Debug, PartialEq, Eq)]
+struct Mark {
+    entry: usize,
+    offset: usize,
 }
 
 // What a search over all columns gives: the last column of the name, and the bytes of one row.
 #[derive(Clone, Copy)]
 struct Search {
-    mark: Mark,
+    mark: Option<Mark>,
     width: usize,
-}
-
-// A cell of a table, or why the table is refused. Parts are parts of the slice that holds the table.
-#[derive(Clone, Copy)]
-pub enum Lookup {
-    Holds(Cell),
-    NoTable(Refusal),
 }
 
 // Whether a name stands at a body byte, with a zero byte after it and none in it.
@@ -46,18 +38,16 @@ fn spelled(body: &[u8], at: usize, name: &[u8]) -> bool
     requires { at < 2 ^ 33 }
     ensures { result ≡ spells body.now at name.now }
 {
-    let mut i = 0;
-    while i < name.len() {
+    for (i, letter) in name.iter().enumerate() {
         let byte = word::read8(body, at + i);
         if byte == 0 {
             return false;
         }
-        if byte != word::read8(name, i) {
+        if byte != usize::from(*letter) {
             return false;
         }
-        i += 1;
     }
-    word::read8(body, at + i) == 0
+    word::read8(body, at + name.len()) == 0
 }
 
 // Whether the column whose record stands at a body byte has the name.
@@ -66,40 +56,34 @@ fn has_name(body: &[u8], entry: usize, layout: Layout, name: &[u8]) -> bool
     ensures { result ≡ spells body.now (layout.strings + be32 body.now (entry + 1) - 24) name.now }
 {
     let place = (layout.strings as usize) + word::read32(body, entry + 1);
-    if place < layout::BODY {
-        return spelled(body, 0, name);
-    }
-    spelled(body, place - layout::BODY, name)
+    spelled(body, place.saturating_sub(layout::BODY), name)
 }
 
 // A column of the name takes the place of the one marked so far.
-fn mark_if(named: bool, entry: usize, offset: usize, best: Mark) -> Mark
+fn mark_if(named: bool, entry: usize, offset: usize, best: Option<Mark>) -> Option<Mark>
     ensures { result ≡ mark_if named entry offset best }
 {
     if named {
-        return Mark::Marked { entry, offset };
+        Some(Mark { entry, offset })
+    } else {
+        best
     }
-    best
 }
 
 // The last column of the name. No text is read further than it agrees with the name.
 fn last_named(body: &[u8], layout: Layout, name: &[u8]) -> Search
     requires { layout.columns ≤ 64 }
-    ensures { (result ≡ search_from body.now layout name.now layout.columns 0 0 Mark.Nowhere) × (result.width ≤ 256 * layout.columns) }
+    ensures { (result ≡ search_from body.now layout name.now layout.columns 0 0 None) × (result.width ≤ 256 * layout.columns) }
 {
-    let mut best = Mark::Nowhere;
-    let mut left = layout.columns;
+    let mut best = None;
     let mut entry = 0;
     let mut offset = 0;
-    while 0 < left {
+    for _ in 0..layout.columns {
         let tag = word::read8(body, entry);
         let named = has_name(body, entry, layout, name);
-        let better = mark_if(named, entry, offset, best);
-        best = better;
-        let mode = layout.mode;
-        entry = entry + column::in_record(tag, mode);
-        offset = offset + column::in_row(tag, mode);
-        left -= 1;
+        best = mark_if(named, entry, offset, best);
+        entry += column::in_record(tag, layout.mode);
+        offset += column::in_row(tag, layout.mode);
     }
     Search {
         mark: best,
@@ -108,7 +92,7 @@ fn last_named(body: &[u8], layout: Layout, name: &[u8]) -> Search
 }
 
 // The cell of a type at a body byte that is a sum, which may not fit.
-fn cell_past(body: &[u8], kind: u8, at: usize, offset: usize, layout: Layout) -> CellAnswer
+fn cell_past(body: &[u8], kind: u8, at: usize, offset: usize, layout: Layout) -> Result<Cell, Cause>
     ensures { result ≡ cell_at body.now kind (at + offset) layout }
 {
     if word::left_from(body, at) < offset {
@@ -118,16 +102,20 @@ fn cell_past(body: &[u8], kind: u8, at: usize, offset: usize, layout: Layout) ->
 }
 
 // The cell of a column in the row that starts at a body byte: its constant, what stands there, or zero.
-fn cell_in(body: &[u8], column: Column, at: usize, offset: usize, layout: Layout) -> CellAnswer
+fn cell_in(
+    body: &[u8],
+    column: Column,
+    at: usize,
+    offset: usize,
+    layout: Layout,
+) -> Result<Cell, Cause>
     ensures { result ≡ cell_in body.now column.storage column.constant column.kind (at + offset) layout }
 {
-    let storage = column.storage;
-    let constant = column.constant;
-    match storage {
-        Storage::Constant => CellAnswer::Got(constant),
+    match column.storage {
+        Storage::Constant => Ok(column.constant),
         Storage::Stored => cell_past(body, column.kind, at, offset, layout),
         Storage::Zero => cell::zero_cell(column.kind),
-        Storage::Unknown => CellAnswer::Refused(Cause::UnknownStorage),
+        Storage::Unknown => Err(Cause::UnknownStorage),
     }
 }
 
@@ -136,10 +124,8 @@ fn shift_in(storage: Storage, by: usize) -> usize
     ensures { result ≡ shift_in storage by }
 {
     match storage {
-        Storage::Constant => by,
-        Storage::Stored => by,
         Storage::Zero => 0,
-        Storage::Unknown => by,
+        Storage::Constant | Storage::Stored | Storage::Unknown => by,
     }
 }
 
@@ -149,34 +135,25 @@ fn shifted_cell(cell: Cell, by: usize) -> Cell
     ensures { result ≡ shifted by cell }
 {
     match cell {
-        Cell::Nothing => cell,
-        Cell::Unsigned(_) => cell,
-        Cell::Signed(_) => cell,
-        Cell::Float(_) => cell,
-        Cell::NotANumber(_) => cell,
-        Cell::Text { start, len } => {
-            let moved = by + start;
-            Cell::Text { start: moved, len }
-        }
-        Cell::Data { start, len } => {
-            if len == 0 {
-                return Cell::Data { start: 0, len };
-            }
-            let moved = by + start;
-            Cell::Data { start: moved, len }
-        }
+        Cell::Text { start, len } => Cell::Text {
+            start: by + start,
+            len,
+        },
+        Cell::Data { len: 0, .. } => Cell::Data { start: 0, len: 0 },
+        Cell::Data { start, len } => Cell::Data {
+            start: by + start,
+            len,
+        },
+        _ => cell,
     }
 }
 
 // The same of an answer.
-fn moved_cell(answer: CellAnswer, by: usize) -> CellAnswer
+fn moved_cell(answer: Result<Cell, Cause>, by: usize) -> Result<Cell, Cause>
     requires { by + end_of_answer answer < 2 ^ 64 }
     ensures { result ≡ moved by answer }
 {
-    match answer {
-        CellAnswer::Got(cell) => CellAnswer::Got(shifted_cell(cell, by)),
-        CellAnswer::Refused(cause) => CellAnswer::Refused(cause),
-    }
+    Ok(shifted_cell(answer?, by))
 }
 
 // The cell of the column whose record stands at a body byte, in the row that starts at one, in a slice where the body starts at byte `by`.
@@ -187,90 +164,100 @@ fn column_cell(
     at: usize,
     offset: usize,
     layout: Layout,
-) -> CellAnswer
+) -> Result<Cell, Cause>
     requires { by + length body.now < 2 ^ 64 }
     ensures { result ≡ column_cell body.now by (at + offset) layout (column_at body.now entry layout) }
 {
     match column::read_column(body, entry, layout) {
-        ColumnAnswer::Found(column) => {
-            let storage = column.storage;
-            moved_cell(
-                cell_in(body, column, at, offset, layout),
-                shift_in(storage, by),
-            )
-        }
-        ColumnAnswer::NoColumn(_) => CellAnswer::Got(Cell::Nothing),
+        Ok(column) => moved_cell(
+            cell_in(body, column, at, offset, layout),
+            shift_in(column.storage, by),
+        ),
+        Err(_) => Ok(Cell::Nothing),
     }
 }
 
 // The cell of a mark in the row that starts at a body byte.
-fn marked_cell(body: &[u8], by: usize, mark: Mark, at: usize, layout: Layout) -> CellAnswer
+fn marked_cell(
+    body: &[u8],
+    by: usize,
+    mark: Option<Mark>,
+    at: usize,
+    layout: Layout,
+) -> Result<Cell, Cause>
     requires { by + length body.now < 2 ^ 64 }
     ensures { result ≡ marked_cell body.now by at layout mark }
 {
     match mark {
-        Mark::Nowhere => CellAnswer::Got(Cell::Nothing),
-        Mark::Marked { entry, offset } => column_cell(body, by, entry, at, offset, layout),
+        None => Ok(Cell::Nothing),
+        Some(Mark { entry, offset }) => column_cell(body, by, entry, at, offset, layout),
     }
 }
 
 // The cell of the last column of the name, in a row of a body.
-fn body_cell(body: &[u8], by: usize, layout: Layout, name: &[u8], row: usize) -> CellAnswer
+fn body_cell(body: &[u8], by: usize, layout: Layout, name: &[u8], row: usize) -> Result<Cell, Cause>
     requires { (layout.columns ≤ 64) × ((row < 256) × (by + length body.now < 2 ^ 64)) }
     ensures { result ≡ body_cell body.now by layout name.now row }
 {
     let found = last_named(body, layout, name);
-    let mark = found.mark;
-    let width = found.width;
-    let at = (layout.start as usize) + row * width;
-    marked_cell(body, by, mark, at, layout)
+    let at = (layout.start as usize) + row * found.width;
+    marked_cell(body, by, found.mark, at, layout)
 }
 
-// The same in a table that was read.
-fn row_cell(bytes: &[u8], place: usize, layout: Layout, name: &[u8], row: usize) -> Lookup
+// A cell's answer as that of a table at a place.
+fn placed_at(answer: Result<Cell, Cause>, place: usize) -> Result<Cell, Refusal>
+    ensures { result ≡ placed place answer }
+{
+    match answer {
+        Ok(cell) => Ok(cell),
+        Err(cause) => refusal::refused(cause, place),
+    }
+}
+
+// The cell of the last column of the name, in a row of a table that was read.
+fn row_cell(
+    bytes: &[u8],
+    place: usize,
+    layout: Layout,
+    name: &[u8],
+    row: usize,
+) -> Result<Cell, Refusal>
     requires { ((layout.columns ≤ 64) × (layout.rows ≤ 256)) × (place + (32 + layout.size) ≤ length bytes.now) }
     ensures { result ≡ cell_from bytes.now place name.now row layout }
 {
     if layout.rows <= row {
-        return Lookup::Holds(Cell::Nothing);
+        return Ok(Cell::Nothing);
     }
     let by = place + layout::HEADER;
     let end = by + layout.size;
-    match body_cell(&bytes[by..end], by, layout, name, row) {
-        CellAnswer::Got(cell) => Lookup::Holds(cell),
-        CellAnswer::Refused(cause) => Lookup::NoTable(Refusal { cause, place }),
-    }
+    placed_at(body_cell(&bytes[by..end], by, layout, name, row), place)
 }
 
 // The cell of the last column of a name, in a row of the table at a place of a slice, read in a mode.
-pub fn cell_of(bytes: &[u8], place: usize, mode: TableMode, name: &[u8], row: usize) -> Lookup
+pub fn cell_of(
+    bytes: &[u8],
+    place: usize,
+    mode: TableMode,
+    name: &[u8],
+    row: usize,
+) -> Result<Cell, Refusal>
     ensures { result ≡ cell_of bytes.now place mode name.now row }
 {
-    match table::read_table(bytes, place, mode) {
-        TableAnswer::Table(layout) => row_cell(bytes, place, layout, name, row),
-        TableAnswer::NoTable(refusal) => Lookup::NoTable(refusal),
-    }
-}
-
-// The last of so many rows, 0 where there is none.
-fn last_row(rows: usize) -> usize
-    ensures { result ≡ rows - 1 }
-{
-    if rows == 0 {
-        return 0;
-    }
-    rows - 1
+    let layout = table::read_table(bytes, place, mode)?;
+    row_cell(bytes, place, layout, name, row)
 }
 
 // The cell of the last column of a name, in the last row of the table at a place of a slice.
-pub fn last_cell_of(bytes: &[u8], place: usize, mode: TableMode, name: &[u8]) -> Lookup
+pub fn last_cell_of(
+    bytes: &[u8],
+    place: usize,
+    mode: TableMode,
+    name: &[u8],
+) -> Result<Cell, Refusal>
     ensures { result ≡ last_cell_of bytes.now place mode name.now }
 {
-    match table::read_table(bytes, place, mode) {
-        TableAnswer::Table(layout) => {
-            let row = last_row(layout.rows);
-            row_cell(bytes, place, layout, name, row)
-        }
-        TableAnswer::NoTable(refusal) => Lookup::NoTable(refusal),
-    }
+    let layout = table::read_table(bytes, place, mode)?;
+    // Without rows there is no cell in row 0.
+    let row = layout.rows.saturating_sub(1);
+    row_cell(bytes, place, layout, name, row)
 }

@@ -1,13 +1,11 @@
 // A column's name, and its cell in a row, by the column's number. Of a table only the layout, the column's record and what is asked for are read:
 // whether all of it is accepted is for `table::read_table` to say. Rules T.
-ghost use Rattle.std.specs.Prelude.{◌≡◌, ◌+◌, ◌*◌, ◌≤◌, ◌<◌, ◌^◌, length, true};
-ghost use Rattle.layout.specs.declared.LayoutAnswer.TheVariants.{Laid};
-ghost use Rattle.lookup.specs.Lookups.{placed};
+ghost use Rattle.std.specs.Prelude.{◌≡◌, ◌+◌, ◌*◌, ◌≤◌, ◌<◌, ◌^◌, length, true, Ok};
 ghost use Rattle.lookup.specs.Numbers.{record_at, offset_at, on_line, line_cell, numbered_in, cell_by, tag_in, tag_by};
 
-use crate::{Lookup, column_cell, moved_cell};
-use cell::{Cell, CellAnswer};
-use layout::{Layout, LayoutAnswer};
+use crate::{column_cell, moved_cell, placed_at};
+use cell::Cell;
+use layout::Layout;
 use reading::TableMode;
 use refusal::{Cause, Refusal};
 
@@ -33,21 +31,24 @@ fn slot_of(body: &[u8], layout: Layout, number: usize) -> Slot
     requires { number ≤ 64 }
     ensures { (result.entry ≡ record_at body.now layout number) × (result.offset ≡ offset_at body.now layout number) × (result.entry ≤ 261 * number) × (result.offset ≤ 256 * number) }
 {
-    let mut i = 0;
     let mut entry = 0;
     let mut offset = 0;
-    while i < number {
+    for _ in 0..number {
         let tag = word::read8(body, entry);
-        let mode = layout.mode;
-        entry = entry + column::in_record(tag, mode);
-        offset = offset + column::in_row(tag, mode);
-        i += 1;
+        entry += column::in_record(tag, layout.mode);
+        offset += column::in_row(tag, layout.mode);
     }
     Slot { entry, offset }
 }
 
 // What a line shows of a column of a body, in a slice where the body starts at byte `by`.
-fn line_cell(body: &[u8], by: usize, layout: Layout, line: Line, number: usize) -> CellAnswer
+fn line_cell(
+    body: &[u8],
+    by: usize,
+    layout: Layout,
+    line: Line,
+    number: usize,
+) -> Result<Cell, Cause>
     requires { (layout.columns ≤ 64) × (number < 64) × (layout.rows ≤ 256) × (on_line layout line ≡ true) × (by + length body.now < 2 ^ 64) }
     ensures { result ≡ line_cell body.now by layout line number }
 {
@@ -56,8 +57,7 @@ fn line_cell(body: &[u8], by: usize, layout: Layout, line: Line, number: usize) 
         Line::Names => moved_cell(cell::read_cell(body, STRING, slot.entry + 1, layout), by),
         Line::Row(row) => {
             let end = slot_of(body, layout, layout.columns);
-            let width = end.offset;
-            let at = (layout.start as usize) + row * width;
+            let at = (layout.start as usize) + row * end.offset;
             column_cell(body, by, slot.entry, at, slot.offset, layout)
         }
     }
@@ -74,51 +74,50 @@ fn has_line(layout: Layout, line: Line) -> bool
 }
 
 // What a line shows of a column of the table of a layout.
-fn cell_in_table(bytes: &[u8], place: usize, layout: Layout, line: Line, number: usize) -> Lookup
+fn cell_in_table(
+    bytes: &[u8],
+    place: usize,
+    layout: Layout,
+    line: Line,
+    number: usize,
+) -> Result<Cell, Refusal>
     requires { ((layout.columns ≤ 64) × (layout.rows ≤ 256)) × (place + (32 + layout.size) ≤ length bytes.now) }
-    ensures { result ≡ numbered_in bytes.now place line number (Laid layout) }
+    ensures { result ≡ numbered_in bytes.now place line number (Ok layout) }
 {
     if layout.columns <= number {
-        return Lookup::Holds(Cell::Nothing);
+        return Ok(Cell::Nothing);
     }
     if has_line(layout, line) {
         let by = place + layout::HEADER;
         let end = by + layout.size;
         return placed_at(line_cell(&bytes[by..end], by, layout, line, number), place);
     }
-    Lookup::Holds(Cell::Nothing)
-}
-
-// A cell's answer as that of a table at a place.
-fn placed_at(answer: CellAnswer, place: usize) -> Lookup
-    ensures { result ≡ placed place answer }
-{
-    match answer {
-        CellAnswer::Got(cell) => Lookup::Holds(cell),
-        CellAnswer::Refused(cause) => Lookup::NoTable(Refusal { cause, place }),
-    }
+    Ok(Cell::Nothing)
 }
 
 // The name of the column of a number, or its cell in a row, of the table at a place of a slice, read in a mode.
-pub fn cell_by(bytes: &[u8], place: usize, mode: TableMode, line: Line, number: usize) -> Lookup
+pub fn cell_by(
+    bytes: &[u8],
+    place: usize,
+    mode: TableMode,
+    line: Line,
+    number: usize,
+) -> Result<Cell, Refusal>
     ensures { result ≡ cell_by bytes.now place mode line number }
 {
     if bytes.len() < place {
-        return Lookup::NoTable(Refusal {
-            cause: Cause::RanOut,
-            place,
-        });
+        return refusal::refused(Cause::RanOut, place);
     }
     match layout::read_layout(&bytes[place..], mode) {
-        LayoutAnswer::Laid(layout) => cell_in_table(bytes, place, layout, line, number),
-        LayoutAnswer::NoLayout(cause) => Lookup::NoTable(Refusal { cause, place }),
+        Ok(layout) => cell_in_table(bytes, place, layout, line, number),
+        Err(cause) => refusal::refused(cause, place),
     }
 }
 
 // The type byte of the column of a number of a table of a layout.
 fn tag_in_table(bytes: &[u8], place: usize, layout: Layout, number: usize) -> u8
     requires { (layout.columns ≤ 64) × (place + (32 + layout.size) ≤ length bytes.now) }
-    ensures { result ≡ tag_in bytes.now place number (Laid layout) }
+    ensures { result ≡ tag_in bytes.now place number (Ok layout) }
 {
     if layout.columns <= number {
         return 0;
@@ -137,7 +136,7 @@ pub fn tag_by(bytes: &[u8], place: usize, mode: TableMode, number: usize) -> u8
         return 0;
     }
     match layout::read_layout(&bytes[place..], mode) {
-        LayoutAnswer::Laid(layout) => tag_in_table(bytes, place, layout, number),
-        LayoutAnswer::NoLayout(_) => 0,
+        Ok(layout) => tag_in_table(bytes, place, layout, number),
+        Err(_) => 0,
     }
 }

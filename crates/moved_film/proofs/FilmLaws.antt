@@ -1,11 +1,11 @@
 -- A film of request 1 without a key: its header, the turns of its streams, and its ends. Assumes nothing.
+use Rattle.std.specs.Prelude.{None}
 use mathlib.Core.Path.{◌≡◌, refl, ap, ◌∙◌}
 use Prim.Native.Nat.{ℕ, ◌+◌}
 use mathlib.Core.List.{List, [], ◌++◌}
 use mathlib.Core.Bool.{Bool, true, false, cond}
 use lib.ListN.{length, length-append}
 use Rattle.signature.specs.Signatures.{contents_end}
-use Rattle.unmasking.specs.declared.Key.TheVariants.{Absent}
 use Rattle.unmasking.specs.Unmasking.{unmasking_of}
 use Rattle.write_blocks.specs.Blocks.{head_of, block_of}
 use Rattle.write_blocks.specs.Tables.{marker_of}
@@ -22,7 +22,7 @@ header name packing = bytes_of (header_blocks name packing)
 abbrev pub ends : Packing → List ℕ
 ends packing = bytes_of (end_blocks packing)
 
-module _ (name : List ℕ) (packing : Packing) (k : packing.key ≡ Absent) where
+module _ (name : List ℕ) (packing : Packing) (k : packing.key ≡ None) where
   pub film_laid : (video audio : List ℕ) → film_bytes name video audio packing ≡ header name packing ++ (chunks_of New video audio ++ ends packing)
   unfolding film_bytes
   film_laid video audio =

@@ -1,4 +1,5 @@
 -- The pieces of which a container is compared with the film that is rebuilt from its parts. Assumes nothing.
+use Rattle.std.specs.Prelude.{Some, None}
 use Prim.Native.Nat.{ℕ, ◌+◌, ◌-◌, ◌≤◌, ◌<◌}
 use mathlib.Core.Path.{◌≡◌, refl, sym, ap, ap₂, ◌∙◌}
 use mathlib.Core.List.{List, [], ◌∷◌, ◌++◌, append_assoc}
@@ -12,7 +13,6 @@ use borrow.Author.Tests.{le-leb, lt-leb}
 use Rattle.laws.proofs.Side.{side}
 use Rattle.part.specs.Parts.{part_at}
 use Rattle.signature.specs.Signatures.{CRID, same_bytes, stands_at, filename}
-use Rattle.unmasking.specs.declared.Key.TheVariants.{Absent}
 use Rattle.utf8.specs.Utf8.{is_utf8}
 use Rattle.word.specs.Bytes.{bytes32, zeros, padding}
 use Rattle.write_blocks.specs.Blocks.{head_of, block_of}
@@ -26,7 +26,6 @@ use Rattle.turns.specs.Turns.{chunks_of, Read, read_in, turns_by}
 use Rattle.turns.proofs.FrontLaws.{front, stands_front, front_self, stands_then, same_front}
 use Rattle.turns.proofs.ReadLaws.{read_whole}
 use Rattle.old_film.proofs.FindLaws.{closing}
-use Rattle.moved_film.specs.declared.Found.TheVariants.{Film, Foreign}
 use Rattle.moved_film.specs.Finding.{parts_at, parts_from, found_as}
 use Rattle.moved_film.proofs.FilmLaws.{header, ends, film_laid}
 
@@ -107,7 +106,7 @@ some_ends : (t : Bool) → 0 < cond t 0x80 0x40
 some_ends true = omega arith
 some_ends false = omega arith
 
-module _ (c name : List ℕ) (packing : Packing) (k : packing.key ≡ Absent) (rest : List ℕ) (h : header name packing ≡ name_block name ++ rest) (last : List ℕ) (l : last ≡ ends packing) (first start : ℕ)
+module _ (c name : List ℕ) (packing : Packing) (k : packing.key ≡ None) (rest : List ℕ) (h : header name packing ≡ name_block name ++ rest) (last : List ℕ) (l : last ≡ ends packing) (first start : ℕ)
     (f : first ≡ 86 + length name + padding (54 + length name)) (s : start ≡ first + length rest) (turns : Turns)
     (t : turns ≡ turns_by (read_in New packing.audio (drop start c))) (within : turns.end ≤ length (drop start c)) where
   first_is : length (name_block name) ≡ first
@@ -162,8 +161,8 @@ module _ (c name : List ℕ) (packing : Packing) (k : packing.key ≡ Absent) (r
       ∙ shuffle (stands_at (name_block name) c 0) (stands_at rest c first) (stands_at last c end) (eqb (length c - end) (length last))
 
   pub found : (u : Bool) → (is_utf8 name && stands) ≡ u
-      → cond u (Film (record { name = length name; packing = packing; start = start; turns = turns })) Foreign ≡ found_as c (parts_from c name packing)
+      → cond u (Some (record { name = length name; packing = packing; start = start; turns = turns })) None ≡ found_as c (parts_from c name packing)
   found u g =
-      ap₂ (λ (w : Bool) (m : Turns). cond w (Film (record { name = length name; packing = packing; start = start; turns = m })) Foreign)
+      ap₂ (λ (w : Bool) (m : Turns). cond w (Some (record { name = length name; packing = packing; start = start; turns = m })) None)
       (sym g ∙ ap (λ (w : Bool). is_utf8 name && w) (sym same_is)) t
       ∙ ap (λ (p : ℕ). found_as c (parts_at c name packing p)) (sym start_is)

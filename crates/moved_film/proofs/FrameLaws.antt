@@ -1,4 +1,5 @@
 -- What is written without a name and without a payload holds all blocks of a film but its first and its chunks. Assumes nothing.
+use Rattle.std.specs.Prelude.{None, Result, Ok, Err}
 use Prim.Native.Nat.{ℕ, ◌+◌, ◌-◌, ◌≤◌}
 use mathlib.Core.Path.{◌≡◌, refl, sym, ap, ◌∙◌}
 use mathlib.Core.List.{List, [], ◌++◌, append_assoc}
@@ -9,10 +10,7 @@ use lib.Seq.{sets-eq}
 use borrow.Author.Tests.{le-ltb}
 use Rattle.part.specs.Parts.{part_at}
 use Rattle.signature.specs.Signatures.{header_end, metadata_end, same_bytes}
-use Rattle.unmasking.specs.declared.Key.TheVariants.{Absent}
 use Rattle.refusal.specs.declared.Refusal.{Refusal}
-use Rattle.lent.specs.declared.Written.{Written}
-use Rattle.lent.specs.declared.Written.TheVariants.{Size, Refused}
 use Rattle.lent.specs.Written.{written_in, left_by}
 use Rattle.word.specs.Bytes.{zeros}
 use Rattle.write_blocks.specs.Tables.{marker_of, empty_table}
@@ -24,7 +22,7 @@ use Rattle.write_plan.specs.Planning.{is_given, any_marked, planned_of}
 use Rattle.write_plan.proofs.BlockLaws.{header_bytes}
 use Rattle.write_plan.proofs.LengthLaws.{film_length}
 use Rattle.write_plan.proofs.SizeLaws.{frame_fits}
-use Rattle.write_plan.proofs.PlanLaws.{unmarked_last}
+use Rattle.write_plan.proofs.PlanLaws.{unmarked_none}
 use Rattle.write.specs.Writing.{WritingOf, Writing}
 use Rattle.turns.proofs.PayloadLaws.{part_between}
 use Rattle.moved_film.proofs.FilmLaws.{ends, frame_laid}
@@ -58,21 +56,21 @@ module _ (packing : Packing) where
 
   none_marked : any_marked (payloads_of []) ≡ false
   unfolding same_bytes
-  none_marked = unmarked_last [] refl (omega arith)
+  none_marked = unmarked_none [] refl
 
-  module _ (k : packing.key ≡ Absent) (given : (not packing.audio && is_given packing.audio_codec) ≡ false) where
-    planned : planned_of [] [] [] packing ≡ Size (length frame)
+  module _ (k : packing.key ≡ None) (given : (not packing.audio && is_given packing.audio_codec) ≡ false) where
+    planned : planned_of [] [] [] packing ≡ Ok (length frame)
     unfolding planned_of
     planned = rw (given, le-ltb 0x40000000 (length frame) (omega (arith, frame_few)), none_marked)
 
     laid : frame ≡ name_block [] ++ (behind packing ++ ends packing)
     laid = frame_laid [] packing k ∙ ap (λ (l : List ℕ). l ++ ends packing) (header_bytes [] packing) ∙ append_assoc (name_block []) (behind packing) (ends packing)
 
-    module _ {out' : List ℕ} {r : Written} (w : Writing [] [] [] packing blank r out') where
+    module _ {out' : List ℕ} {r : Result ℕ Refusal} (w : Writing [] [] [] packing blank r out') where
       written_as : WritingOf [] [] [] packing blank r out'
       written_as = rw (none_either packing.audio) at w
 
-      pub is-size : r ≡ Size (length frame)
+      pub is-size : r ≡ Ok (length frame)
       is-size = written_as.0 ∙ ap (written_in (length blank)) planned ∙ rw (le-ltb (length blank) (length frame) (omega (arith, frame_few, blank_length)))
 
       abbrev after : List ℕ
@@ -80,10 +78,10 @@ module _ (packing : Packing) where
 
       holds : out' ≡ name_block [] ++ (behind packing ++ (ends packing ++ after))
       holds =
-          written_as.1 ∙ ap (λ (t : Written). left_by t blank frame) is-size ∙ sets-eq frame blank 0 (omega (arith, frame_few, blank_length))
+          written_as.1 ∙ ap (λ (t : Result ℕ Refusal). left_by t blank frame) is-size ∙ sets-eq frame blank 0 (omega (arith, frame_few, blank_length))
           ∙ ap (λ (l : List ℕ). take 0 blank ++ l ++ after) laid ∙ simp append_assoc
 
-      module _ {size last : ℕ} (e : r ≡ Size size) (f : last ≡ length (ends packing)) where
+      module _ {size last : ℕ} (e : r ≡ Ok size) (f : last ≡ length (ends packing)) where
         sizes : size ≡ 0x60 + length (behind packing) + length (ends packing)
         sizes =
             let s : size ≡ length frame = cc (sym e ∙ is-size) in
@@ -102,5 +100,5 @@ module _ (packing : Packing) where
             ap (λ (l : List ℕ). part_at l (size - last) last) (holds ∙ sym (append_assoc (name_block []) (behind packing) (ends packing ++ after)))
             ∙ part_between (name_block [] ++ behind packing) (ends packing) after (size - last) last (omega (arith, sizes, f, length-append (name_block []) (behind packing), name_length_lem [])) (sym f)
 
-      pub not_refused : (refusal : Refusal) → r ≡ Refused refusal → ⊥
+      pub not_refused : (refusal : Refusal) → r ≡ Err refusal → ⊥
       not_refused refusal e = let z : ◌≡◌ {A = ℕ} 0 1 = cc (sym e ∙ is-size) in omega arith

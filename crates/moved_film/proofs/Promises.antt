@@ -1,4 +1,5 @@
 -- The promise of specs/Promises.antt, under its name: the header walk reads back what the header was written from, and the turns behind it are read back. Assumes nothing.
+use Rattle.std.specs.Prelude.{Option, None, Ok}
 use Prim.Native.Nat.{ℕ}
 use mathlib.Core.Path.{◌≡◌, refl, sym, ap, ap₂, ◌∙◌}
 use mathlib.Core.List.{List, [], ◌++◌}
@@ -8,10 +9,6 @@ use lib.Seq.{drop_at}
 use Rattle.signature.specs.Signatures.{same_bytes}
 use Rattle.reading.specs.declared.AudioChoice.TheVariants.{Chosen}
 use Rattle.reading.specs.Choices.{as_original}
-use Rattle.unmasking.specs.declared.Key.{Key}
-use Rattle.unmasking.specs.declared.Key.TheVariants.{Absent}
-use Rattle.lent.specs.declared.Written.TheVariants.{Size}
-use Rattle.header.specs.declared.HeaderAnswer.TheVariants.{Read}
 use Rattle.utf8.specs.Utf8.{is_utf8}
 use Rattle.write_plan.specs.declared.Packing.{Packing}
 use Rattle.write_plan.specs.Payloads.{payloads_of}
@@ -31,8 +28,8 @@ use Rattle.moved_film.specs.Promises as promised
 use Rattle.moved_film.proofs.FilmLaws.{header, ends, film_laid}
 use Rattle.moved_film.proofs.BackLaws.{neither, no_ends, ends_no_chunk}
 
-module _ (name video audio : List ℕ) (packing : Packing) (size : ℕ) (u : is_utf8 name ≡ true) (k : packing.key ≡ Absent) (mpeg : CodecFits packing.mpeg_codec)
-    (other : CodecFits packing.audio_codec) (silent : packing.audio ≡ false → audio ≡ []) (planned : planned_of name video audio packing ≡ Size size) where
+module _ (name video audio : List ℕ) (packing : Packing) (size : ℕ) (u : is_utf8 name ≡ true) (k : packing.key ≡ None) (mpeg : CodecFits packing.mpeg_codec)
+    (other : CodecFits packing.audio_codec) (silent : packing.audio ≡ false → audio ≡ []) (planned : planned_of name video audio packing ≡ Ok size) where
   abbrev c : List ℕ
   c = film_bytes name video audio packing
 
@@ -44,11 +41,11 @@ module _ (name video audio : List ℕ) (packing : Packing) (size : ℕ) (u : is_
 
   -- ---- the header
 
-  answer : answer_in c ≡ Read (header_back name packing start)
+  answer : answer_in c ≡ Ok (header_back name packing start)
   answer = header_is name video audio packing size sound mpeg other silent (as_original Chosen) refl
 
   packing_back : packing_by (header_back name packing start) ≡ packing
-  packing_back = ap (λ (key : Key). record { audio = packing.audio; mpeg_codec = packing.mpeg_codec; audio_codec = packing.audio_codec; key = key }) (sym k)
+  packing_back = ap (λ (key : Option ℕ). record { audio = packing.audio; mpeg_codec = packing.mpeg_codec; audio_codec = packing.audio_codec; key = key }) (sym k)
 
   parts_back : finding.parts_by c (header_back name packing start) ≡ parts_from c name packing
   parts_back = ap₂ (parts_from c) (name_is name video audio packing size sound mpeg other silent (as_original Chosen) refl) packing_back

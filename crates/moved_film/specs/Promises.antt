@@ -1,7 +1,5 @@
 -- What recognising a film promises. It is proved under the same name in proofs/Promises.antt.
-use Rattle.std.specs.Prelude.{ℕ, ◌≡◌, List, [], true, false, length}
-use Rattle.unmasking.specs.declared.Key.TheVariants.{Absent}
-use Rattle.lent.specs.declared.Written.TheVariants.{Size}
+use Rattle.std.specs.Prelude.{ℕ, ◌≡◌, List, [], true, false, length, None, Ok}
 use Rattle.utf8.specs.Utf8.{is_utf8}
 use Rattle.write_plan.specs.declared.Packing.{Packing}
 use Rattle.write_plan.specs.Films.{bytes_of, header_blocks, film_bytes}
@@ -19,6 +17,6 @@ WrittenFrom name video audio packing parts =
 -- written from
 abbrev pub FoundAgain : Type 0
 FoundAgain =
-    (name video audio : List ℕ) (packing : Packing) (size : ℕ) → is_utf8 name ≡ true → packing.key ≡ Absent → CodecFits packing.mpeg_codec
-    → CodecFits packing.audio_codec → (packing.audio ≡ false → audio ≡ []) → planned_of name video audio packing ≡ Size size
+    (name video audio : List ℕ) (packing : Packing) (size : ℕ) → is_utf8 name ≡ true → packing.key ≡ None → CodecFits packing.mpeg_codec
+    → CodecFits packing.audio_codec → (packing.audio ≡ false → audio ≡ []) → planned_of name video audio packing ≡ Ok size
     → (is_new (film_bytes name video audio packing) ≡ true) × WrittenFrom name video audio packing (parts_of (film_bytes name video audio packing))

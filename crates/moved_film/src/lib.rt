@@ -3,20 +3,17 @@
 // From the Rust: nothing. Its builder writes another container.
 #![tactic(auto)]
 
-ghost use Rattle.std.specs.Prelude.{◌≡◌, ◌&&◌, not, false, ◌++◌, ◌≤◌, length};
+ghost use Rattle.std.specs.Prelude.{◌≡◌, ◌&&◌, not, false, ◌++◌, ◌≤◌, length, None};
 ghost use Rattle.signature.specs.Signatures.{CRID, contents_end, stands_at};
-ghost use Rattle.unmasking.specs.declared.Key.TheVariants as key;
 ghost use Rattle.write_blocks.specs.Blocks.{block_of};
 ghost use Rattle.write_blocks.specs.Tables.{marker_of, name_table};
 ghost use Rattle.write_plan.specs.Films.{bytes_of, in_each, header_blocks, end_blocks};
 ghost use Rattle.write_plan.specs.Planning.{is_given};
 ghost use Rattle.moved_film.specs.Finding.{packing_by, parts_from, found_as, found_in};
 
-use header::{Header, HeaderAnswer};
-use lent::Written;
+use header::Header;
 use reading::AudioChoice;
 use turns::{Form, Turns};
-use unmasking::Key;
 use write_plan::Packing;
 
 // A film of request 1 without a key: the length of its name, how it is packed, where its chunks start, and what they hold.
@@ -26,13 +23,6 @@ pub struct NewFilm {
     pub packing: Packing,
     pub start: usize,
     pub turns: Turns,
-}
-
-// What a container is: a film that the move writes, or none.
-#[derive(Clone, Copy)]
-pub enum Found {
-    Film(NewFilm),
-    Foreign,
 }
 
 // Where a name stands.
@@ -93,8 +83,14 @@ fn name_stands(container: &[u8], name: &[u8]) -> bool
 }
 
 // What a container is, by its name and packing: `rest` is the header behind the name's block, and `ends` what closes the film.
-fn rebuild(container: &[u8], name: &[u8], packing: Packing, rest: &[u8], ends: &[u8]) -> Found
-    requires { (length name.now ≤ 0x40000000) × (packing.key ≡ key.Absent) × (bytes_of (header_blocks name.now packing) ≡ block_of CRID (name_table name.now) ++ rest.now) × (ends.now ≡ bytes_of (end_blocks packing)) }
+fn rebuild(
+    container: &[u8],
+    name: &[u8],
+    packing: Packing,
+    rest: &[u8],
+    ends: &[u8],
+) -> Option<NewFilm>
+    requires { (length name.now ≤ 0x40000000) × (packing.key ≡ None) × (bytes_of (header_blocks name.now packing) ≡ block_of CRID (name_table name.now) ++ rest.now) × (ends.now ≡ bytes_of (end_blocks packing)) }
     ensures { result ≡ found_as container.now (parts_from container.now name.now packing) }
 {
     let len = name.len();
@@ -108,31 +104,31 @@ fn rebuild(container: &[u8], name: &[u8], packing: Packing, rest: &[u8], ends: &
     let around = both(signature::stands_at(rest, container, first), closed);
     let same = both(name_stands(container, name), around);
     if both(utf8::is_utf8(name), same) {
-        return Found::Film(NewFilm {
+        return Some(NewFilm {
             name: len,
             packing,
             start,
             turns,
         });
     }
-    Found::Foreign
+    None
 }
 
 // What a container is, by its name and packing. All blocks but the name's and the chunks are those of a film without either.
-fn found_as(container: &[u8], name: &[u8], packing: Packing) -> Found
-    requires { (length name.now ≤ 0x40000000) × (packing.key ≡ key.Absent) × ((not packing.audio && is_given packing.audio_codec) ≡ false) }
+fn found_as(container: &[u8], name: &[u8], packing: Packing) -> Option<NewFilm>
+    requires { (length name.now ≤ 0x40000000) × (packing.key ≡ None) × ((not packing.audio && is_given packing.audio_codec) ≡ false) }
     ensures { result ≡ found_as container.now (parts_from container.now name.now packing) }
 {
     let mut frame = [0u8; FRAME];
     match write::write(b"", b"", b"", packing, &mut frame) {
-        Written::Size(size) => {
+        Ok(size) => {
             let ends = write_plan::ends_size(packing.audio);
             let cut = size - ends;
             let rest = part::part_at(&frame, FIRST, cut - FIRST);
             let last = part::part_at(&frame, cut, ends);
             rebuild(container, name, packing, rest, last)
         }
-        Written::Refused(_) => Found::Foreign,
+        Err(_) => None,
     }
 }
 
@@ -146,20 +142,20 @@ fn packing_by(head: Header) -> Packing
         audio: head.audio,
         mpeg_codec,
         audio_codec,
-        key: Key::Absent,
+        key: None,
     }
 }
 
 // What a container is.
-pub fn find(container: &[u8]) -> Found
+pub fn find(container: &[u8]) -> Option<NewFilm>
     ensures { result ≡ found_in container.now }
 {
     match header::read_header(container, reading::as_original(AudioChoice::Chosen)) {
-        HeaderAnswer::Read(head) => {
+        Ok(head) => {
             let place = head.name;
             let name = film_name::name_of(container, b"", place);
             found_as(container, name, packing_by(head))
         }
-        HeaderAnswer::Refused(_) => Found::Foreign,
+        Err(_) => None,
     }
 }

@@ -1,4 +1,5 @@
 -- What the builder writes around the chunks, piece by piece, and that a container is its film exactly when all pieces stand there. Assumes nothing.
+use Rattle.std.specs.Prelude.{Some, None}
 use Prim.Native.Nat.{ℕ, zero, suc, ◌+◌, ◌-◌, ◌*◌, ◌^◌, ◌≤◌, ◌<◌}
 use mathlib.Core.Path.{◌≡◌, refl, sym, ap, ap₂, ◌∙◌}
 use mathlib.Core.List.{List, [], ◌∷◌, ◌++◌, append-nil, append_assoc}
@@ -20,7 +21,6 @@ use Rattle.turns.specs.declared.Turns.{Turns}
 use Rattle.turns.specs.Turns.{next_of, turns_of, chunks_of, Read, read_in, turns_by}
 use Rattle.turns.proofs.FrontLaws.{front, stands_front, front_self, stands_then, part_stands, same_front}
 use Rattle.turns.proofs.ReadLaws.{no_audio, read_whole}
-use Rattle.old_film.specs.declared.Found.TheVariants.{Film, Foreign}
 use Rattle.old_film.specs.Blocks.{old_head, table_block, end_block}
 use Rattle.old_film.specs.Tables.{name_start, old_names, old_video, old_audio}
 use Rattle.old_film.specs.Films.{audio_blocks, old_audios, old_turns, bytes_in, old_ends, old_bytes}
@@ -254,13 +254,13 @@ module _ (c name : List ℕ) (e : name ≡ name_in c) (audio : Bool) (g : audio 
 
   pub found : (count : ℕ) → count ≡ audio_count audio → (u : Bool)
       → (is_utf8 name && stands_around c (length name) turns.video (start + turns.end) count) ≡ u
-      → cond u (Film (record { name = length name; audio = audio; start = start; turns = turns })) Foreign ≡ found_in c
+      → cond u (Some (record { name = length name; audio = audio; start = start; turns = turns })) None ≡ found_in c
   unfolding found_in
   found count k u f =
-      ap₂ (λ (w : Bool) (m : Turns). cond w (Film (record { name = length name; audio = audio; start = start; turns = m })) Foreign)
+      ap₂ (λ (w : Bool) (m : Turns). cond w (Some (record { name = length name; audio = audio; start = start; turns = m })) None)
       (sym f ∙ ap (λ (n : ℕ). is_utf8 name && stands_around c (length name) turns.video (start + turns.end) n) k ∙ ap (λ (w : Bool). is_utf8 name && w) (sym same_is)) t
-      ∙ ap (λ (p : Parts). cond (is_utf8 p.name && same_bytes c (rebuilt p)) (Film (record { name = length p.name; audio = p.audio; start = p.start; turns = turns_by p.read })) Foreign)
+      ∙ ap (λ (p : Parts). cond (is_utf8 p.name && same_bytes c (rebuilt p)) (Some (record { name = length p.name; audio = p.audio; start = p.start; turns = turns_by p.read })) None)
       (sym parts_are)
 
-  pub not_utf8 : (count : ℕ) → count ≡ audio_count audio → is_utf8 name ≡ false → Foreign ≡ found_in c
+  pub not_utf8 : (count : ℕ) → count ≡ audio_count audio → is_utf8 name ≡ false → None ≡ found_in c
   not_utf8 count k e = found count k false (ap (λ (w : Bool). w && stands_around c (length name) turns.video (start + turns.end) count) e)

@@ -1,5 +1,5 @@
 -- Rules O7 and O8: recognising is rebuilding. A film is the builder's exactly when writing it anew from its own parts gives the same bytes. Here with at most one audio.
-use Rattle.std.specs.Prelude.{ℕ, ◌+◌, ◌-◌, List, [], ◌∷◌, ◌++◌, Bool, cond, ◌&&◌, length, drop, replicate, eqb}
+use Rattle.std.specs.Prelude.{ℕ, ◌+◌, ◌-◌, List, [], ◌∷◌, ◌++◌, Bool, cond, ◌&&◌, length, drop, replicate, eqb, Option, Some, None}
 use Rattle.word.specs.Numbers.{be32}
 use Rattle.part.specs.Parts.{part_at}
 use Rattle.signature.specs.Signatures.{CRID, SFV, SFA, same_bytes, stands_at}
@@ -8,8 +8,6 @@ use Rattle.word.specs.Bytes.{zeros, padding}
 use Rattle.turns.specs.declared.Form.TheVariants.{Old}
 use Rattle.turns.specs.Turns.{Read, read_in, turns_by}
 use Rattle.old_film.specs.declared.OldFilm.{OldFilm}
-use Rattle.old_film.specs.declared.Found.{Found}
-use Rattle.old_film.specs.declared.Found.TheVariants.{Film, Foreign}
 use Rattle.old_film.specs.Blocks.{old_head, table_block}
 use Rattle.old_film.specs.Tables.{name_start, old_video, old_audio}
 use Rattle.old_film.specs.Films.{old_ends, old_bytes}
@@ -62,8 +60,8 @@ is_old container = is_utf8 (parts_of container).name && same_bytes container (re
 abbrev pub film_by : Parts → OldFilm
 film_by parts = record { name = length parts.name; audio = parts.audio; start = parts.start; turns = turns_by parts.read }
 
-unfoldable pub found_in : List ℕ → Found
-found_in container = cond (is_old container) (Film (film_by (parts_of container))) Foreign
+unfoldable pub found_in : List ℕ → Option OldFilm
+found_in container = cond (is_old container) (Some (film_by (parts_of container))) None
 
 -- ---- what is left to compare, where the blocks of audios and the chunks stand as they were read
 

@@ -23,13 +23,6 @@ pub struct OldFilm {
     pub turns: Turns,
 }
 
-// What a container is: a film of the builder, or none.
-#[derive(Clone, Copy)]
-pub enum Found {
-    Film(OldFilm),
-    Foreign,
-}
-
 // Where a name stands.
 pub const NAME: usize = 96;
 
@@ -47,23 +40,12 @@ const END: usize = 28;
 pub fn name_head(len: u32) -> [u8; 96]
     ensures { result ≡ old_head CRID (89 + len) ++ name_start len }
 {
-    let size = 89 + len as usize;
-    let table = 61 + len as usize;
-    let blobs = 57 + len as usize;
+    let len = len as usize;
     let mut head =
         *b"CRID\0\0\0\0\0\x01\0\x18\0\0\0\0\0\0\0\0\0\0\0\0\0\0\0\0@UTF\0\0\0\0\0\x01\0\x19\0\0\0\x1d\0\0\0\0\0\0\0\0\0\x01\0\x04\0\0\0\x01\x5a\0\0\0\x12\0\0\0\x1bCRIUSF_DIR_STREAM\0filename\0";
-    head[4] = (size / 0x1000000 % 256) as u8;
-    head[5] = (size / 0x10000 % 256) as u8;
-    head[6] = (size / 0x100 % 256) as u8;
-    head[7] = (size % 256) as u8;
-    head[32] = (table / 0x1000000 % 256) as u8;
-    head[33] = (table / 0x10000 % 256) as u8;
-    head[34] = (table / 0x100 % 256) as u8;
-    head[35] = (table % 256) as u8;
-    head[44] = (blobs / 0x1000000 % 256) as u8;
-    head[45] = (blobs / 0x10000 % 256) as u8;
-    head[46] = (blobs / 0x100 % 256) as u8;
-    head[47] = (blobs % 256) as u8;
+    head[4..8].copy_from_slice(&write_blocks::low32(MORE + len));
+    head[32..36].copy_from_slice(&write_blocks::low32(61 + len));
+    head[44..48].copy_from_slice(&write_blocks::low32(57 + len));
     head
 }
 
@@ -74,10 +56,7 @@ pub fn video_block(len: usize) -> [u8; 128]
     let frames = len / 1000;
     let mut block =
         *b"@SFV\0\0\0\x77\0\x01\0\x18\0\0\0\0\0\0\0\0\0\0\0\0\0\0\0\0@UTF\0\0\0\x5b\0\x01\0\x1f\0\0\0\x2b\0\0\0\x53\0\0\0\0\0\x03\0\x0c\0\0\0\x01\x54\0\0\0\x0e\x54\0\0\0\x14\x54\0\0\0\x1b\0\0\x07\x80\0\0\x04\x38\0\0\0\0VIDEO_HDRINFO\0width\0height\0total_frames\0\0";
-    block[83] = (frames / 0x1000000 % 256) as u8;
-    block[84] = (frames / 0x10000 % 256) as u8;
-    block[85] = (frames / 0x100 % 256) as u8;
-    block[86] = (frames % 256) as u8;
+    block[83..87].copy_from_slice(&write_blocks::low32(frames));
     block
 }
 
@@ -87,10 +66,7 @@ pub fn audio_block(number: u32) -> [u8; 96]
 {
     let mut block =
         *b"@SFA\0\0\0\x55\0\x01\0\x18\0\0\0\0\0\0\0\0\0\0\0\0\0\0\0\0@UTF\0\0\0\x39\0\x01\0\x10\0\0\0\x14\0\0\0\x30\0\0\0\0\0\x01\0\x04\0\0\0\x01\x54\0\0\0\x0e\0\0\0\0AUDIO_HDRINFO\0stream_id\0\0\0\0";
-    block[65] = (number / 0x1000000 % 256) as u8;
-    block[66] = (number / 0x10000 % 256) as u8;
-    block[67] = (number / 0x100 % 256) as u8;
-    block[68] = (number % 256) as u8;
+    block[65..69].copy_from_slice(&word::bytes32(number));
     block
 }
 
@@ -107,7 +83,7 @@ pub fn name_in(container: &[u8]) -> &[u8]
     ensures { PartAt container.entry 96 (be32 container.now 4 - 89) result × (length result.now < 2 ^ 32) }
 {
     let size = word::read32(container, 4);
-    part::part_at(container, NAME, turns::less(size, MORE))
+    part::part_at(container, NAME, size.saturating_sub(MORE))
 }
 
 // The size of the first block, with a name of `len` bytes.
@@ -122,20 +98,14 @@ pub fn name_size(len: u32) -> usize
 fn audio_count(audio: bool) -> usize
     ensures { result ≡ audio_count audio }
 {
-    if audio {
-        return 1;
-    }
-    0
+    usize::from(audio)
 }
 
 // The bytes of a slice from a place on.
 fn tail(bytes: &[u8], place: usize) -> &[u8]
     ensures { result.now ≡ drop place bytes.now }
 {
-    if bytes.len() <= place {
-        return &bytes[0..0];
-    }
-    &bytes[place..]
+    bytes.get(place..).unwrap_or(&[])
 }
 
 // Whether the first block stands at the front, around a name of `len` bytes.
@@ -143,13 +113,11 @@ fn name_stands(container: &[u8], len: u32) -> bool
     ensures { result ≡ (stands_at (old_head CRID (89 + len) ++ name_start len) container.now 0 && stands_at (zeros (1 + padding (97 + len))) container.now (96 + len)) }
 {
     let head = name_head(len);
-    if signature::stands_at(&head, container, 0) {
-        let none = [0u8; 33];
-        let len = len as usize;
-        let count = 1 + word::padding(97 + len);
-        return signature::stands_at(&none[..count], container, NAME + len);
-    }
-    false
+    let none = [0u8; 33];
+    let len = len as usize;
+    let count = 1 + word::padding(97 + len);
+    signature::stands_at(&head, container, 0)
+        && signature::stands_at(&none[..count], container, NAME + len)
 }
 
 // Whether an end stands at a place.
@@ -168,37 +136,28 @@ fn ends_stand(container: &[u8], place: usize, count: usize) -> bool
     ensures { result ≡ closes_with container.now place count }
 {
     let mut at = place;
-    let mut left = count;
-    while 0 < left {
-        if end_stands(container, at) {
-            at += END;
-            left -= 1;
-        } else {
+    for _audio in 0..count {
+        if !end_stands(container, at) {
             return false;
         }
+        at += END;
     }
-    if end_stands(container, at) {
-        return word::left_from(container, at) == END;
-    }
-    false
+    end_stands(container, at) && word::left_from(container, at) == END
 }
 
 // Whether all that the builder writes around the blocks of audios and the chunks stands where it writes it.
 pub fn is_rebuilt(container: &[u8], name: u32, video: usize, end: usize, count: usize) -> bool
     ensures { result ≡ stands_around container.now name video end count }
 {
-    if name_stands(container, name) {
-        let block = video_block(video);
-        if signature::stands_at(&block, container, name_size(name)) {
-            return ends_stand(container, end, count);
-        }
-        return false;
-    }
-    false
+    let block = video_block(video);
+    let first = name_size(name);
+    name_stands(container, name)
+        && signature::stands_at(&block, container, first)
+        && ends_stand(container, end, count)
 }
 
 // What a container is.
-pub fn find(container: &[u8]) -> Found
+pub fn find(container: &[u8]) -> Option<OldFilm>
     ensures { result ≡ found_in container.now }
 {
     let name = name_in(container);
@@ -211,14 +170,14 @@ pub fn find(container: &[u8]) -> Found
     if utf8::is_utf8(name) {
         let end = start + turns.end;
         if is_rebuilt(container, len as u32, turns.video, end, count) {
-            return Found::Film(OldFilm {
+            return Some(OldFilm {
                 name: len,
                 audio,
                 start,
                 turns,
             });
         }
-        return Found::Foreign;
+        return None;
     }
-    Found::Foreign
+    None
 }

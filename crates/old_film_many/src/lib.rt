@@ -52,6 +52,7 @@ fn count_in(container: &[u8], place: usize) -> usize
     ensures { (result ≡ count_in (drop place container.now)) × (result ≤ 2 ^ 32) × (0 < result → place + result * 0x60 ≤ length container.now) }
 {
     let mut count = 0;
+    // No `for` over the numbers: it would say a second time that there are no more than NUMBERS, and be no plainer.
     while is_there(container, place, count) {
         count += 1;
     }
@@ -82,11 +83,9 @@ fn first_audios(bytes: &[u8], place: usize, count: usize) -> usize
     ensures { (result ≡ place + sizes_of (payloads_in 0 0 (replicate count true) (drop place bytes.now))) × (result ≤ length bytes.now) }
 {
     let mut at = place;
-    let mut number = 0;
-    while number < count {
+    for number in 0..count {
         let next = end_at(bytes, at, number as u32, 0, true);
         at = next;
-        number += 1;
     }
     at
 }
@@ -98,6 +97,7 @@ fn next_audios(bytes: &[u8], start: usize, end: usize, place: usize, from: usize
 {
     let mut at = start;
     let mut last = place;
+    // No `for`: each chunk's own length says where the next begins.
     while at < end {
         let number = word::read32(bytes, at + 16) as u32;
         let len = len_at(bytes, at, Track::Audio(number), from, true);
@@ -142,14 +142,11 @@ fn read_streams(bytes: &[u8], place: usize, count: usize) -> Sizes
 {
     let mut turn = first_turn(bytes, place, count);
     let mut video = turn.video;
-    let mut from = 0;
-    let mut left = (bytes.len() - place) / PAYLOAD;
-    while 0 < left {
-        let next = next_turn(bytes, turn, from);
+    let rounds = (bytes.len() - place) / PAYLOAD;
+    for round in 0..rounds {
+        let next = next_turn(bytes, turn, round * PAYLOAD);
         video += next.video;
         turn = next;
-        from += PAYLOAD;
-        left -= 1;
     }
     Sizes {
         video,

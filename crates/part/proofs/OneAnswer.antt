@@ -1,8 +1,5 @@
 -- No second answer meets a contract of this crate: what a caller learns makes two parts one, their place and their bytes. Assumes nothing.
-use Prim.Native.Nat.{ℕ}
-use mathlib.Core.Path.{◌≡◌}
-use mathlib.Core.List.{List}
-use denote.Ref.{Bor}
+use Rattle.std.proofs.Common.{◌≡◌, ℕ, List, Bor}
 use Rattle.laws.proofs.OneAnswer.{no_second_answer}
 use Rattle.part.specs.Parts.{IsPart}
 use Rattle.part.proofs.part_at.Reads as part_at

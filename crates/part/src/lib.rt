@@ -3,16 +3,13 @@
 
 ghost use Rattle.part.specs.Parts.{PartAt};
 
-// The part of a slice from a start on, or its empty part at byte 0 where the slice does not hold that much.
+// The part of a slice from a start on, or its empty part at byte 0 where the slice does not hold that much. It is a range, since
+// `PartAt` says where a part lies, and `get` promises its bytes alone.
 pub fn part_at(bytes: &[u8], start: usize, len: usize) -> &[u8]
     ensures { PartAt bytes.entry start len result }
 {
-    if bytes.len() < start {
-        return &bytes[0..0];
+    match bytes.len().checked_sub(start) {
+        Some(left) if len <= left => &bytes[start..start + len],
+        _ => &bytes[..0],
     }
-    if word::left_from(bytes, start) < len {
-        return &bytes[0..0];
-    }
-    let end = start + len;
-    &bytes[start..end]
 }

@@ -1,28 +1,20 @@
 -- The replies on a film that is read piece by piece, field by field. Ours, beyond the rules.
-use Rattle.std.specs.Prelude.{ℕ}
+use Rattle.std.specs.Prelude.{ℕ, Option, Some, None, Result, Ok, Err}
+use Rattle.extract.specs.declared.Contents.{Contents}
+use Rattle.header.specs.declared.Header.{Header}
+use Rattle.refusal.specs.declared.Refusal.{Refusal}
 use Rattle.refusal.specs.Numbers.{number_of}
 use Rattle.chunk.specs.declared.Chunk.{Chunk}
-use Rattle.chunk.specs.declared.ChunkStep.{ChunkStep}
-use Rattle.chunk.specs.declared.ChunkStep.TheVariants.{Over, Found, Refused}
-use Rattle.chunk.specs.declared.Stepped.{Stepped}
-use Rattle.chunk.specs.declared.Stepped.TheVariants.{More, Step}
 use Rattle.chunk.specs.Chunks.{kind_number}
-use Rattle.codec.specs.declared.Codec.{Codec}
 use Rattle.unmasking.specs.Unmasking.{mask_number}
-use Rattle.header.specs.declared.HeaderAnswer.{HeaderAnswer}
-use Rattle.header.specs.declared.HeaderAnswer.TheVariants as header
-use Rattle.extract.specs.declared.Extracted.{Extracted}
-use Rattle.extract.specs.declared.Extracted.TheVariants as extracted
 use Rattle.extract.specs.Extraction.{contents_of}
 use Rattle.replies.specs.declared.FilmReply.{FilmReply}
 use Rattle.replies.specs.FilmReplies.{film_reply}
 use Rattle.chunk_mask.specs.ChunkMasks.{mask_of}
-use Rattle.pieces.specs.declared.Opened.{Opened}
-use Rattle.pieces.specs.declared.Opened.TheVariants as opened
 use Rattle.piece_replies.specs.declared.StepReply.{StepReply}
 use Rattle.piece_replies.specs.declared.OpenReply.{OpenReply}
 
-abbrev pub chunk_reply : Codec → Chunk → StepReply
+abbrev pub chunk_reply : Option ℕ → Chunk → StepReply
 chunk_reply codec chunk = record {
   refused_at = 0;
   next = chunk.next;
@@ -53,25 +45,25 @@ found_reply place number found = record {
   mask = 0;
 }
 
-abbrev pub said_by : Codec → ChunkStep → StepReply
-said_by codec Over = found_reply 0 0 0
-said_by codec (Found chunk) = chunk_reply codec chunk
-said_by codec (Refused refusal) = found_reply refusal.place (number_of refusal.cause) 0
+abbrev pub said_by : Option ℕ → Result (Option Chunk) Refusal → StepReply
+said_by codec (Ok None) = found_reply 0 0 0
+said_by codec (Ok (Some chunk)) = chunk_reply codec chunk
+said_by codec (Err refusal) = found_reply refusal.place (number_of refusal.cause) 0
 
-abbrev pub step_reply : Codec → Stepped → StepReply
-step_reply codec More = found_reply 0 0 2
-step_reply codec (Step step) = said_by codec step
+abbrev pub step_reply : Option ℕ → Option (Result (Option Chunk) Refusal) → StepReply
+step_reply codec None = found_reply 0 0 2
+step_reply codec (Some step) = said_by codec step
 
 -- ---- an opening
 
 -- a header as an answer on a film whose sizes are not known: both are 0
-abbrev pub answer_as : HeaderAnswer → Extracted
-answer_as (header.Read read) = extracted.Film (contents_of read 0 0)
-answer_as (header.Refused refusal) = extracted.Refused refusal
+abbrev pub answer_as : Result Header Refusal → Result Contents Refusal
+answer_as (Ok read) = Ok (contents_of read 0 0)
+answer_as (Err refusal) = Err refusal
 
-abbrev pub chunks_in : HeaderAnswer → ℕ
-chunks_in (header.Read read) = read.start
-chunks_in (header.Refused refusal) = 0
+abbrev pub chunks_in : Result Header Refusal → ℕ
+chunks_in (Ok read) = read.start
+chunks_in (Err refusal) = 0
 
 abbrev pub no_reply : FilmReply
 no_reply = record {
@@ -93,6 +85,6 @@ no_reply = record {
 }
 
 -- no fallback is given: a film without a name has a name of no bytes
-abbrev pub open_reply : Opened → OpenReply
-open_reply opened.More = record { film = no_reply; chunks = 0; more = 1 }
-open_reply (opened.Known answer) = record { film = film_reply 0 (answer_as answer); chunks = chunks_in answer; more = 0 }
+abbrev pub open_reply : Option (Result Header Refusal) → OpenReply
+open_reply None = record { film = no_reply; chunks = 0; more = 1 }
+open_reply (Some answer) = record { film = film_reply 0 (answer_as answer); chunks = chunks_in answer; more = 0 }

@@ -1,10 +1,10 @@
 -- The promises of specs/Promises.antt, each under its name. Assumes nothing.
+use Rattle.std.specs.Prelude.{Ok, Err}
 use mathlib.Core.Path.{sym, ap, ◌∙◌}
 use mathlib.Core.List.{List}
 use Prim.Native.Nat.{ℕ}
 use lib.ListN.{take, drop}
 use Rattle.reading.specs.Choices.{applied_to}
-use Rattle.header.specs.declared.HeaderAnswer.TheVariants.{Read, Refused}
 use Rattle.chunk.proofs.Promises.{WindowsGiveTheStep}
 use Rattle.walk.specs.Walks.{clean}
 use Rattle.film.specs.Films.{walked_as, film_from, after_header, film_of}
@@ -27,18 +27,18 @@ StepsOfAFilm container reading c k few h = film_step_lem container reading few (
 pub FilmByPieces : promised.FilmByPieces
 unfolding film_of film_from
 FilmByPieces container n how window size header chunks ending windows e learnt =
-    let read = known container how n (Read header) e in
+    let read = known container how n (Ok header) e in
     let applied = applied_to header.audio how in
     ap (after_header (film_from container how)) read
     ∙ ap (walked_as header applied) (walk_learnt container applied (not_too_long container how header read) window size windows header.start chunks ending learnt)
 
 pub RefusedByABeginning : promised.RefusedByABeginning
 unfolding film_of
-RefusedByABeginning container n how refusal e = ap (after_header (film_from container how)) (known container how n (Refused refusal) e)
+RefusedByABeginning container n how refusal e = ap (after_header (film_from container how)) (known container how n (Err refusal) e)
 
 pub StreamsByPieces : promised.StreamsByPieces
 StreamsByPieces container n how key window size payload header chunks windows payloads e learnt =
-    let read = known container how n (Read header) e in
+    let read = known container how n (Ok header) e in
     let codec = header.audio_codec in
     let applied = applied_to header.audio how in
     let few = not_too_long container how header read in

@@ -1,12 +1,10 @@
 -- What is promised of the byte that is found chunk by chunk. Each is proved under the same name in proofs/Promises.antt.
-use Rattle.std.specs.Prelude.{ℕ, ◌≡◌, List, ◌++◌}
+use Rattle.std.specs.Prelude.{ℕ, ◌≡◌, List, ◌++◌, Option, None, Ok}
 use Rattle.reading.specs.declared.Reading.{Reading}
-use Rattle.codec.specs.declared.Codec.{Codec}
 use Rattle.header.specs.declared.Header.{Header}
 use Rattle.chunk.specs.declared.Chunk.{Chunk}
 use Rattle.film.specs.Films.{film_of}
 use Rattle.film_apart.specs.declared.Stream.TheVariants.{VideoStream, AudioStream}
-use Rattle.film_apart.specs.declared.Parting.TheVariants.{Same}
 use Rattle.film_apart.specs.FilmsApart.{film_apart}
 use Rattle.promises_pieces.specs.Promises.{ReadByPieces}
 use Rattle.pieces_apart.specs.declared.Passed.{Passed}
@@ -23,7 +21,7 @@ PartingChunkByChunk =
 -- A video that has parted is enough: no chunk after that changes the parting, so a reader may stop there.
 abbrev pub PartedVideoIsEnough : Type 0
 PartedVideoIsEnough =
-    (codec : Codec) (key key' : ℕ) (video audio : Passed) (before after : List Chunk)
-    → ((past_all VideoStream codec key key' video before).parting ≡ Same → ⊥)
+    (codec : Option ℕ) (key key' : ℕ) (video audio : Passed) (before after : List Chunk)
+    → ((past_all VideoStream codec key key' video before).parting ≡ Ok None → ⊥)
     → parting_of (past_all VideoStream codec key key' video before) audio
     ≡ parting_of (past_all VideoStream codec key key' video (before ++ after)) (past_all AudioStream codec key key' audio after)

@@ -3,28 +3,20 @@
 #![tactic(auto)]
 
 ghost use Rattle.std.specs.Prelude.{◌≡◌};
-ghost use Rattle.film_apart.specs.FilmsApart.{part_in, or_else};
-ghost use Rattle.pieces_apart.specs.Passing.{added, unparted, parted_in, past, parting_of};
+ghost use Rattle.film_apart.specs.FilmsApart.{part_in};
+ghost use Rattle.pieces_apart.specs.Passing.{or_else, unparted, parted_in, past, parting_of};
 
 use chunk::{Chunk, Kind};
-use codec::Codec;
 use film_apart::{Parting, Stream};
+use refusal::Refusal;
 
 // What two keys make of the chunks so far in one stream: how many of its bytes were passed, and where the first stands that differs.
+// Sizes saturate: those of a film never come to more than a size holds.
 #[derive(Clone, Copy)]
 pub struct Passed {
     pub bytes: usize,
-    pub parting: Parting,
-}
-
-// The sum of two sizes; the largest size where they come to more, which those of a film never do.
-fn add(a: usize, b: usize) -> usize
-    ensures { result ≡ added a b }
-{
-    if usize::MAX - a < b {
-        return usize::MAX;
-    }
-    a + b
+    // No chunk is refused here, and an Option would do; docs/CONTRACTS.md names `with_chunk`, which takes each of these values.
+    pub parting: Result<Option<Parting>, Refusal>,
 }
 
 // How many bytes of a payload go to a stream.
@@ -38,50 +30,41 @@ fn part_in(stream: Stream, kind: Kind, len: usize) -> usize
 }
 
 // A parting, or another where there is none.
-fn or_else(parting: Parting, other: Parting) -> Parting
+fn or_else(
+    parting: Result<Option<Parting>, Refusal>,
+    other: Result<Option<Parting>, Refusal>,
+) -> Result<Option<Parting>, Refusal>
     ensures { result ≡ or_else parting other }
 {
     match parting {
-        Parting::Same => other,
-        Parting::Apart {
-            stream,
-            byte,
-            chunk,
-            offset,
-        } => Parting::Apart {
-            stream,
-            byte,
-            chunk,
-            offset,
-        },
-        Parting::Refused(refusal) => Parting::Refused(refusal),
+        Ok(None) => other,
+        _ => parting,
     }
 }
 
 // Where a chunk's share of a stream first differs, after so many bytes of the stream.
 fn parted_in(
     stream: Stream,
-    codec: Codec,
+    codec: Option<u32>,
     key: u64,
     other: u64,
     bytes: usize,
     chunk: Chunk,
-) -> Parting
+) -> Option<Parting>
     ensures { result ≡ parted_in stream codec key other bytes chunk }
 {
-    let kind = chunk.kind;
-    let part = part_in(stream, kind, chunk.len);
-    let mask = chunk_mask::mask_of(codec, kind, chunk.data_type);
+    let part = part_in(stream, chunk.kind, chunk.len);
+    let mask = chunk_mask::mask_of(codec, chunk.kind, chunk.data_type);
     let first = key_apart::payload_apart(mask, part, key, other);
     if first < part {
-        return Parting::Apart {
+        return Some(Parting {
             stream,
-            byte: add(bytes, first),
+            byte: bytes.saturating_add(first),
             chunk: chunk.start,
             offset: first,
-        };
+        });
     }
-    Parting::Same
+    None
 }
 
 // No chunk was passed yet.
@@ -90,7 +73,7 @@ pub fn begin() -> Passed
 {
     Passed {
         bytes: 0,
-        parting: Parting::Same,
+        parting: Ok(None),
     }
 }
 
@@ -98,27 +81,24 @@ pub fn begin() -> Passed
 pub fn with_chunk(
     passed: Passed,
     stream: Stream,
-    codec: Codec,
+    codec: Option<u32>,
     key: u64,
     other: u64,
     chunk: Chunk,
 ) -> Passed
     ensures { result ≡ past stream codec key other passed chunk }
 {
-    let before = passed.parting;
     let here = parted_in(stream, codec, key, other, passed.bytes, chunk);
-    let kind = chunk.kind;
-    let part = part_in(stream, kind, chunk.len);
-    let bytes = add(passed.bytes, part);
-    let parting = or_else(before, here);
-    Passed { bytes, parting }
+    let part = part_in(stream, chunk.kind, chunk.len);
+    Passed {
+        bytes: passed.bytes.saturating_add(part),
+        parting: or_else(passed.parting, Ok(here)),
+    }
 }
 
 // The first byte of both streams: of the video, or of the audio where no byte of the video differs.
-pub fn parting_of(video: Passed, audio: Passed) -> Parting
+pub fn parting_of(video: Passed, audio: Passed) -> Result<Option<Parting>, Refusal>
     ensures { result ≡ parting_of video audio }
 {
-    let first = video.parting;
-    let second = audio.parting;
-    or_else(first, second)
+    or_else(video.parting, audio.parting)
 }

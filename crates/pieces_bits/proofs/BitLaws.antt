@@ -1,6 +1,7 @@
 -- What one payload shows, a longer one shows too: so the largest number is that of the payload that shows most. Assumes nothing.
-use Prim.Native.Nat.{ℕ, ◌+◌, ◌-◌, ◌≤◌, ◌<◌, max}
-use mathlib.Core.Path.{◌≡◌, refl, sym, ap, ap₂, ◌∙◌}
+use Rattle.std.specs.Prelude.{Option}
+use Prim.Native.Nat.{ℕ, ◌≤◌, ◌<◌, max}
+use mathlib.Core.Path.{◌≡◌, refl, sym, ap₂, ◌∙◌}
 use mathlib.Core.Bool.{Bool, true, false, cond, ◌&&◌}
 use mathlib.Core.List.{List, [], ◌∷◌}
 use mathlib.Core.Logic.{⊎_elim}
@@ -14,7 +15,6 @@ use Rattle.clip.specs.Clips.{bits_shown}
 use Rattle.chunk.specs.declared.Chunk.{Chunk}
 use Rattle.chunk.specs.declared.Kind.{Kind}
 use Rattle.chunk.specs.declared.Kind.TheVariants.{Video, Audio, Other, End}
-use Rattle.codec.specs.declared.Codec.{Codec}
 use Rattle.unmasking.specs.declared.Mask.TheVariants.{Clear, VideoMask, AudioMask}
 use Rattle.unmasking.specs.Unmasking.{is_adx}
 use Rattle.key_shown.specs.Shown.{shown_as, shown_in, shown_by}
@@ -58,7 +58,7 @@ pub video_shown : (n : ℕ) (test : Bool) → cond test 0 (bits_shown n) ≡ bit
 video_shown n true = sym none_shown
 video_shown n false = refl
 
-module _ (codec : Codec) where
+module _ (codec : Option ℕ) where
   by_kind : (kind : Kind) (n : ℕ) (masked adx : Bool)
       → (payload_bits (cond (true && masked) VideoMask Clear) n ≡ bits_shown (cond masked (shown_as adx Video n) 0))
       × (payload_bits (cond (adx && masked) AudioMask Clear) n ≡ bits_shown (cond masked (shown_as adx Audio n) 0))

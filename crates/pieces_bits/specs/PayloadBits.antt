@@ -1,7 +1,6 @@
 -- Rule D5a: the bits of a key that a payload shows, and those that a film's payloads show together.
-use Rattle.std.specs.Prelude.{ℕ, max, cond, List, [], ◌∷◌, ltb}
+use Rattle.std.specs.Prelude.{ℕ, max, cond, List, [], ◌∷◌, ltb, Option}
 use Rattle.chunk.specs.declared.Chunk.{Chunk}
-use Rattle.codec.specs.declared.Codec.{Codec}
 use Rattle.clip.specs.Clips.{bits_shown}
 use Rattle.unmasking.specs.declared.Mask.{Mask}
 use Rattle.unmasking.specs.declared.Mask.TheVariants.{Clear, VideoMask, AudioMask}
@@ -17,6 +16,6 @@ payload_bits VideoMask n = video_bits n
 payload_bits AudioMask n = bits_shown n
 
 -- the largest number of all payloads: what one shows, a longer one shows too
-unfoldable pub most_bits : Codec → List Chunk → ℕ
+unfoldable pub most_bits : Option ℕ → List Chunk → ℕ
 most_bits codec [] = 0
 most_bits codec (chunk ∷ chunks) = max (payload_bits (mask_of codec chunk.kind chunk.data_type) chunk.len) (most_bits codec chunks)

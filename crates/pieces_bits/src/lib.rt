@@ -13,9 +13,10 @@ fn video_bits(len: usize) -> u64
     ensures { result ≡ video_bits len }
 {
     if len < SHORTEST_VIDEO {
-        return 0;
+        0
+    } else {
+        clip::bits_shown(len)
     }
-    clip::bits_shown(len)
 }
 
 // The bits that a payload shows, by the mask that it has and its length.

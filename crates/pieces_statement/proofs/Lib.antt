@@ -1,4 +1,3 @@
-pub mod StatingLaws
 pub mod TallyLaws
 pub mod Promises
 pub mod OneAnswer

@@ -1,11 +1,12 @@
 -- The promises of specs/Promises.antt, each under its name: the film is the one that was learnt, and its streams are no longer than it is. Assumes nothing.
+use Rattle.std.specs.Prelude.{Ok, Err}
 use Prim.Native.Nat.{ℕ, ◌+◌, ◌≤◌}
 use mathlib.Core.Path.{◌≡◌, refl, sym, ap, ◌∙◌}
 use mathlib.Core.Logic.{◌↔◌, ⊎_elim}
 use mathlib.Core.Bool.{Bool, true, false, cond}
 use mathlib.Core.List.{List, []}
 use native.Mathlib.Omega.{arith}
-use lib.ListN.{length, take}
+use lib.ListN.{length}
 use lib.Dec.{ltb}
 use borrow.Author.Tests.{ltb-false}
 use Rattle.refusal.specs.declared.Refusal.{Refusal}
@@ -18,10 +19,8 @@ use Rattle.chunk.specs.declared.Chunk.{Chunk}
 use Rattle.walk.specs.Walks.{stopped, video_size, audio_size}
 use Rattle.film.specs.Films.{refused, film_of, survey_of}
 use Rattle.extract.proofs.Promises.{SizesFitTheContainer}
-use Rattle.list.specs.declared.Listed.TheVariants as listed
 use Rattle.list.specs.declared.ListReply.{ListReply}
 use Rattle.list.specs.Listing.{filled_by}
-use Rattle.key_shown.specs.KeyBits.{shown_bits}
 use Rattle.tenants.specs.Tenants.{are_bad}
 use Rattle.statement.specs.Statements.{refused_by, lines_of, Stated}
 use Rattle.pieces.proofs.Promises.{FilmByPieces, RefusedByABeginning}
@@ -29,8 +28,6 @@ use Rattle.pieces_bits.specs.PayloadBits.{most_bits}
 use Rattle.promises_pieces.specs.Promises.{ReadByPieces}
 use Rattle.promises_pieces.proofs.Promises.{its_film, its_bits, its_length, StatementByPieces}
 use Rattle.pieces_statement.specs.declared.Tally.{Tally}
-use Rattle.pieces_statement.specs.declared.Gathered.{Gathered}
-use Rattle.pieces_statement.specs.declared.Gathered.TheVariants.{Film, Refused}
 use Rattle.pieces_statement.specs.Tallies.{added, nothing, with_chunks, some_masked}
 use Rattle.pieces_statement.specs.Stating.{StatedAs}
 use Rattle.pieces_statement.specs.Promises as promised
@@ -60,13 +57,13 @@ TallyByPieces container how header chunks read = rw (← its_bits container how 
 
 -- nothing is filled in where the film is refused
 never_filled : (long bad : Bool) (refusal : Refusal) (lines records : List (List ℕ))
-    → filled_by (cond long (refused_by TooLong) (cond bad (refused_by BadTenants) (listed.Refused refusal))) lines records ≡ lines
+    → filled_by (cond long (refused_by TooLong) (cond bad (refused_by BadTenants) (Err refusal))) lines records ≡ lines
 never_filled true bad refusal lines records = refl
 never_filled false true refusal lines records = refl
 never_filled false false refusal lines records = refl
 
 module _ (container : List ℕ) (tenants lines lines' : List (List ℕ)) (r : ListReply) where
-  of_film : (tally : Tally) → GatheredOf container (Film tally) → StatedAs (length container) (Film tally) tenants lines r lines' ↔ Stated container tenants lines r lines'
+  of_film : (tally : Tally) → GatheredOf container (Ok tally) → StatedAs (length container) (Ok tally) tenants lines r lines' ↔ Stated container tenants lines r lines'
   of_film tally (header, chunks, read, e) =
       let how = as_original Chosen in
       let t = its_length container how header chunks read in
@@ -83,7 +80,7 @@ module _ (container : List ℕ) (tenants lines lines' : List (List ℕ)) (r : Li
       (λ (header, chunks, h, learnt). FilmByPieces container by.beginning how by.window by.size header chunks (stopped refusal) by.windows h learnt)
       by.refuses
 
-  of_refused : (refusal : Refusal) → GatheredOf container (Refused refusal) → StatedAs (length container) (Refused refusal) tenants lines r lines' ↔ Stated container tenants lines r lines'
+  of_refused : (refusal : Refusal) → GatheredOf container (Err refusal) → StatedAs (length container) (Err refusal) tenants lines r lines' ↔ Stated container tenants lines r lines'
   of_refused refusal by =
       let f = film_refused refusal by in
       let long = ltb 0x40000000 (length container) in
@@ -92,5 +89,5 @@ module _ (container : List ℕ) (tenants lines lines' : List (List ℕ)) (r : Li
       (λ (e, p). rw f (e, p ∙ none ∙ sym none'), λ stated. let (e, p) = rw f at stated in (e, p ∙ none' ∙ sym none))
 
 pub StatementAsGathered : promised.StatementAsGathered
-StatementAsGathered container (Film tally) tenants lines lines' r of = of_film container tenants lines lines' r tally of
-StatementAsGathered container (Refused refusal) tenants lines lines' r of = of_refused container tenants lines lines' r refusal of
+StatementAsGathered container (Ok tally) tenants lines lines' r of = of_film container tenants lines lines' r tally of
+StatementAsGathered container (Err refusal) tenants lines lines' r of = of_refused container tenants lines lines' r refusal of

@@ -1,15 +1,15 @@
 -- A tally with chunks more is what it was, with what those chunks come to by themselves. Assumes nothing.
+use Rattle.std.specs.Prelude.{Option}
 use Prim.Native.Nat.{ℕ, ◌+◌, ◌≤◌, max, min}
 use mathlib.Core.Path.{◌≡◌, refl, ◌∙◌}
 use mathlib.Core.Bool.{Bool, true, false, ◌||◌}
 use mathlib.Core.List.{List, [], ◌∷◌}
 use native.Mathlib.Omega.{arith}
-use Rattle.codec.specs.declared.Codec.{Codec}
 use Rattle.chunk.specs.declared.Chunk.{Chunk}
 use Rattle.walk.specs.Walks.{video_in, audio_in, size_of, video_size, audio_size}
 use Rattle.pieces_bits.specs.PayloadBits.{payload_bits, most_bits}
 use Rattle.pieces_statement.specs.declared.Tally.{Tally}
-use Rattle.pieces_statement.specs.Tallies.{added, is_masked, mask_in, nothing, with_chunk, with_chunks, some_masked}
+use Rattle.pieces_statement.specs.Tallies.{added, is_masked, mask_in, nothing, with_chunks, some_masked}
 
 abbrev most : ℕ
 most = 0xFFFFFFFFFFFFFFFF
@@ -29,7 +29,7 @@ or_none : (a : Bool) → a ≡ (a || false)
 or_none true = refl
 or_none false = refl
 
-module _ (codec : Codec) where
+module _ (codec : Option ℕ) where
   all_gathered : (bits : ℕ) (masked : Bool) (video audio : ℕ) (chunks : List Chunk) → video ≤ most → audio ≤ most
       → with_chunks codec (tally bits masked video audio) chunks
       ≡ tally (max bits (most_bits codec chunks)) (masked || some_masked codec chunks) (min (video + video_size chunks) most) (min (audio + audio_size chunks) most)

@@ -3,52 +3,24 @@
 // Rules S. Ours: the Rust has nothing of the kind.
 #![tactic(auto)]
 
-ghost use Rattle.std.specs.Prelude.{◌≡◌, max, ◌||◌};
+ghost use Rattle.std.specs.Prelude.{◌≡◌};
 ghost use Rattle.list.specs.Listing.{list_reply};
 ghost use Rattle.statement.specs.Statements.{refused_by};
-ghost use Rattle.pieces_statement.specs.Tallies.{added, is_masked, nothing, with_chunk};
+ghost use Rattle.pieces_statement.specs.Tallies.{is_masked, nothing, with_chunk};
 ghost use Rattle.pieces_statement.specs.Stating.{StatedAs};
 
 use chunk::Chunk;
-use codec::Codec;
-use list::{ListReply, Listed};
+use list::ListReply;
 use refusal::{Cause, LONGEST, Refusal};
 use unmasking::Mask;
 
-// What a statement goes by, of the chunks so far.
-#[derive(Clone, Copy)]
+// What a statement goes by, of the chunks so far. Sizes saturate: those of a film never come to more than a size holds.
+#[derive(Clone, Copy, Debug, Default, PartialEq, Eq)]
 pub struct Tally {
     pub bits: u64,
     pub masked: bool,
     pub video: usize,
     pub audio: usize,
-}
-
-// What was gathered of a film, or why it is refused.
-#[derive(Clone, Copy)]
-pub enum Gathered {
-    Film(Tally),
-    Refused(Refusal),
-}
-
-// The larger of two numbers.
-fn larger(a: u64, b: u64) -> u64
-    ensures { result ≡ max a b }
-{
-    if a < b {
-        return b;
-    }
-    a
-}
-
-// The sum of two sizes; the largest size where they come to more, which those of a film never do.
-fn add(a: usize, b: usize) -> usize
-    ensures { result ≡ added a b }
-{
-    if usize::MAX - a < b {
-        return usize::MAX;
-    }
-    a + b
 }
 
 // Whether a payload that has such a mask is masked.
@@ -57,49 +29,29 @@ fn is_masked(mask: Mask) -> bool
 {
     match mask {
         Mask::Clear => false,
-        Mask::VideoMask => true,
-        Mask::AudioMask => true,
+        Mask::VideoMask | Mask::AudioMask => true,
     }
-}
-
-// Whether one of two is so.
-fn either(a: bool, b: bool) -> bool
-    ensures { result ≡ (a || b) }
-{
-    if a {
-        return true;
-    }
-    b
 }
 
 // The tally of no chunks.
 pub fn begin() -> Tally
     ensures { result ≡ nothing }
 {
-    Tally {
-        bits: 0,
-        masked: false,
-        video: 0,
-        audio: 0,
-    }
+    Tally::default()
 }
 
 // The tally with one chunk more, of a film whose audio codec this is.
-pub fn with_chunk(tally: Tally, codec: Codec, chunk: Chunk) -> Tally
+pub fn with_chunk(tally: Tally, codec: Option<u32>, chunk: Chunk) -> Tally
     ensures { result ≡ with_chunk codec tally chunk }
 {
-    let kind = chunk.kind;
-    let len = chunk.len;
-    let mask = chunk_mask::mask_of(codec, kind, chunk.data_type);
-    let bits = larger(tally.bits, pieces_bits::payload_bits(mask, len));
-    let masked = either(tally.masked, is_masked(mask));
-    let video = add(tally.video, walk::video_in(kind, len));
-    let audio = add(tally.audio, walk::audio_in(kind, len));
+    let mask = chunk_mask::mask_of(codec, chunk.kind, chunk.data_type);
+    let video = walk::video_in(chunk.kind, chunk.len);
+    let audio = walk::audio_in(chunk.kind, chunk.len);
     Tally {
-        bits,
-        masked,
-        video,
-        audio,
+        bits: tally.bits.max(pieces_bits::payload_bits(mask, chunk.len)),
+        masked: tally.masked || is_masked(mask),
+        video: tally.video.saturating_add(video),
+        audio: tally.audio.saturating_add(audio),
     }
 }
 
@@ -107,13 +59,13 @@ pub fn with_chunk(tally: Tally, codec: Codec, chunk: Chunk) -> Tally
 fn refused(cause: Cause) -> ListReply
     ensures { result ≡ list_reply (refused_by cause) }
 {
-    list::list_reply(Listed::Refused(Refusal { cause, place: 0 }))
+    list::list_reply(refusal::refused(cause, 0))
 }
 
 // As `statement::state`, of a film of `total` bytes of which this was gathered, audio chosen.
 pub fn state_as(
     total: usize,
-    gathered: Gathered,
+    gathered: Result<Tally, Refusal>,
     tenants: &[[u64; 2]],
     lines: &mut [[u64; 3]],
 ) -> ListReply
@@ -126,10 +78,10 @@ pub fn state_as(
         return refused(Cause::BadTenants);
     }
     match gathered {
-        Gathered::Film(tally) => {
-            let size = add(tally.video, tally.audio);
+        Ok(tally) => {
+            let size = tally.video.saturating_add(tally.audio);
             statement::state_by(tally.bits, size, tenants, lines)
         }
-        Gathered::Refused(refusal) => list::list_reply(Listed::Refused(refusal)),
+        Err(refusal) => list::list_reply(Err(refusal)),
     }
 }

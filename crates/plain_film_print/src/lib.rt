@@ -5,24 +5,17 @@
 #![tactic(auto)]
 
 use print_line::Line;
-use profile::{Profiled, Verdict};
-use refusal::Refusal;
+use profile::Verdict;
 
 // A line with the rule of a number in words. Rule 3 is that of a stream.
 fn in_words(line: Line, rule: u8, stream: u8) -> Line {
-    if rule == 1 {
-        return line.word(b"chunk header size 0x18");
-    }
-    if rule == 2 {
-        return line.word(b"block size plus 8 a multiple of 0x20");
-    }
-    if rule == 4 {
-        return line.word(b"no signatures but @SFV and @SFA");
-    }
-    if stream == 0 {
-        return line.word(b"video closed by exactly one end chunk");
-    }
-    line.word(b"audio closed by exactly one end chunk")
+    line.word(match (rule, stream) {
+        (1, _) => b"chunk header size 0x18",
+        (2, _) => b"block size plus 8 a multiple of 0x20",
+        (4, _) => b"no signatures but @SFV and @SFA",
+        (_, 0) => b"video closed by exactly one end chunk",
+        (_, _) => b"audio closed by exactly one end chunk",
+    })
 }
 
 // The line of a verdict.
@@ -51,8 +44,8 @@ pub fn refusal_line(number: u8, place: usize) -> Line {
 // Writes the verdict on a container, or its refusal.
 pub fn print(container: &[u8]) {
     let line = match profile::profile(container) {
-        Profiled::Judged(verdict) => verdict_line(verdict),
-        Profiled::Refused(refusal) => {
+        Ok(verdict) => verdict_line(verdict),
+        Err(refusal) => {
             let cause = refusal.cause;
             refusal_line(refusal::number_of(cause), refusal.place)
         }

@@ -1,5 +1,5 @@
 -- No second answer meets a contract of this crate: what a caller learns makes two lines equal. Assumes nothing.
-use mathlib.Core.Path.{◌≡◌}
+use Rattle.std.proofs.Common.{◌≡◌}
 use Rattle.laws.proofs.OneAnswer.{no_second_answer}
 use Rattle.print_line.proofs.empty.Reads as empty
 use Rattle.print_line.proofs.Line.word.Reads as word

@@ -1,10 +1,5 @@
 -- A piece that does not fit is left out; one that does is put after the line. Assumes nothing.
-use mathlib.Core.Path.{◌≡◌}
-use mathlib.Core.List.{List, [], ◌∷◌}
-use Prim.Native.Nat.{ℕ, ◌-◌, ◌*◌, ◌≤◌, ◌<◌}
-use native.Mathlib.Omega.{arith}
-use lib.ListN.{length}
-use borrow.Author.Tests.{lt-ltb, le-ltb}
+use Rattle.std.proofs.Common.{◌≡◌, List, [], ◌∷◌, ℕ, ◌-◌, ◌*◌, ◌≤◌, ◌<◌, arith, length, lt-ltb, le-ltb}
 use Rattle.text.specs.Numbers.{hex_bytes}
 use Rattle.laws.specs.Outputs.{Put}
 use Rattle.print_line.specs.declared.Line.{Line}

@@ -2,13 +2,13 @@
 // No rule of this crate comes from the Rust: it serves the programs that replay recorded answers.
 #![tactic(auto)]
 
-ghost use Rattle.std.specs.Prelude.{◌≡◌, ◌-◌, replicate};
+ghost use Rattle.std.specs.Prelude.{◌≡◌, replicate};
 ghost use Rattle.text.specs.Numbers.{decimal, hex, hex_bytes};
 ghost use Rattle.print_line.specs.Lines.{with_piece};
 
 use descriptors::STDOUT_FILENO;
 
-// A line so far: the first `len` of the bytes.
+// A line so far: the first `len` of the bytes. It is no String, since `with_piece` says that a piece that does not fit is left out.
 #[derive(Clone, Copy)]
 pub struct Line {
     pub bytes: [u8; ROOM],
@@ -28,23 +28,13 @@ pub fn empty() -> Line
     }
 }
 
-// How many bytes more a line of a length has room for.
-fn room_after(len: usize) -> usize
-    ensures { result ≡ 8200 - len }
-{
-    if ROOM < len {
-        return 0;
-    }
-    ROOM - len
-}
-
 impl Line {
     // The line with a word after it.
     pub fn word(self, word: &[u8]) -> Line
         ensures { result ≡ with_piece self word.now }
     {
         let start = self.len;
-        if room_after(start) < word.len() {
+        if ROOM.saturating_sub(start) < word.len() {
             return self;
         }
         let mut bytes = self.bytes;
@@ -60,7 +50,7 @@ impl Line {
         ensures { result ≡ with_piece self (hex_bytes part.now) }
     {
         let start = self.len;
-        if room_after(start) / 2 < part.len() {
+        if ROOM.saturating_sub(start) / 2 < part.len() {
             return self;
         }
         let mut bytes = self.bytes;
@@ -92,15 +82,8 @@ impl Line {
     // Writes the line and LF.
     pub fn end(self) {
         let line = self.word(b"\n");
-        let bytes = line.bytes;
-        write_first(bytes, line.len);
+        if let Some(text) = line.bytes.get(..line.len) {
+            io::write_all(STDOUT_FILENO, text);
+        }
     }
-}
-
-// Writes the first `len` of the bytes.
-fn write_first(bytes: [u8; ROOM], len: usize) {
-    if ROOM < len {
-        return;
-    }
-    io::write_all(STDOUT_FILENO, &bytes[..len]);
 }

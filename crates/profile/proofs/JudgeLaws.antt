@@ -1,26 +1,24 @@
 -- A loop over the chunks that stops at the first rule that is broken: what the chunks from here on break is what all of them break. Assumes nothing.
+use Rattle.std.specs.Prelude.{Some, None, Ok, Err}
 use Prim.Native.Nat.{ℕ, ◌+◌, ◌≤◌}
 use mathlib.Core.Path.{◌≡◌, sym, ap}
 use mathlib.Core.List.{List}
 use native.Mathlib.Omega.{arith}
 use lib.ListN.{length, take, drop}
 use borrow.Author.Tests.{eq-eqb, ne_eqb}
-use Rattle.word.specs.Numbers.{be16, be32}
+use Rattle.word.specs.Numbers.{be32}
 use Rattle.refusal.specs.declared.Refusal.{Refusal}
 use Rattle.reading.specs.declared.Applied.{Applied}
 use Rattle.chunk.specs.declared.Chunk.{Chunk}
-use Rattle.chunk.specs.declared.ChunkStep.TheVariants.{Over, Found, Refused}
 use Rattle.chunk.specs.Chunks.{chunk_at}
 use Rattle.chunk.proofs.OpeningLaws.{same_be16, same_be32, same_letters}
 use Rattle.walk.specs.Walks.{Walk, walk_from}
 use Rattle.walk.proofs.WalkLaws.{walk_over, walk_found, walk_refused}
 use Rattle.header.specs.declared.Header.{Header}
-use Rattle.film.specs.declared.Surveyed.TheVariants as survey
 use Rattle.film.specs.Films.{film_of, survey_of}
 use Rattle.film.proofs.FilmLaws.{surveyed_film, surveyed_refusal}
 use Rattle.profile.specs.declared.Streams.{Streams}
 use Rattle.profile.specs.declared.Verdict.{Verdict}
-use Rattle.profile.specs.declared.Profiled.TheVariants as profiled
 use Rattle.profile.specs.Streams.{stream_of, after_kind, first_of}
 use Rattle.profile.specs.Profiles.{broken_by, judged_in, missing, letters_at, judged_at, judged, heard, profile_of}
 use Rattle.profile.proofs.NumberLaws.{by_numbers}
@@ -44,15 +42,15 @@ module _ (container : List ℕ) (reading : Applied) where
     abbrev on : Walk → Verdict
     on walk = judged container streams walk.chunks
 
-    pub none_left : chunk_at container reading c ≡ Over → missing (length container) streams ≡ from c streams
+    pub none_left : chunk_at container reading c ≡ Ok None → missing (length container) streams ≡ from c streams
     unfolding judged
     none_left e = sym (ap on (walk_over container reading c e))
 
-    pub none_read : (refusal : Refusal) → chunk_at container reading c ≡ Refused refusal → missing (length container) streams ≡ from c streams
+    pub none_read : (refusal : Refusal) → chunk_at container reading c ≡ Err refusal → missing (length container) streams ≡ from c streams
     unfolding judged
     none_read refusal e = sym (ap on (walk_refused container reading c refusal e))
 
-    module _ (chunk : Chunk) (e : chunk_at container reading c ≡ Found chunk) where
+    module _ (chunk : Chunk) (e : chunk_at container reading c ≡ Ok (Some chunk)) where
       pub it-breaks : ((judged_at container streams chunk).rule ≡ 0 → ⊥) → judged_at container streams chunk ≡ from c streams
       unfolding judged
       it-breaks n = rw (walk_found container reading c chunk e, ne_eqb (judged_at container streams chunk).rule 0 n)
@@ -64,11 +62,11 @@ module _ (container : List ℕ) (reading : Applied) where
 -- ---- the whole film
 
 module _ (container : List ℕ) where
-  pub film_judged : (header : Header) (applied : Applied) (count video audio : ℕ) → survey_of (film_of container heard) ≡ survey.Film header applied count video audio
-      → profiled.Judged (from container applied header.start (first_of header.audio)) ≡ profile_of container
+  pub film_judged : (header : Header) (applied : Applied) (count video audio : ℕ) → survey_of (film_of container heard) ≡ Ok (record { header = header; reading = applied; count = count; video = video; audio = audio })
+      → Ok (from container applied header.start (first_of header.audio)) ≡ profile_of container
   unfolding profile_of
   film_judged header applied count video audio e = rw (surveyed_film container heard header applied count video audio e)
 
-  pub film_refused : (refusal : Refusal) → survey_of (film_of container heard) ≡ survey.Refused refusal → profiled.Refused refusal ≡ profile_of container
+  pub film_refused : (refusal : Refusal) → survey_of (film_of container heard) ≡ Err refusal → Err refusal ≡ profile_of container
   unfolding profile_of
   film_refused refusal e = rw (surveyed_refusal container heard refusal e)

@@ -1,4 +1,3 @@
-pub mod RuleLaws
 pub mod NumberLaws
 pub mod JudgeLaws
 pub mod StepLaws

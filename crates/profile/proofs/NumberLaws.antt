@@ -1,38 +1,11 @@
--- The first rule that a chunk breaks by its numbers, by the tests that lead to it; and that it is the one which the container says. Assumes nothing.
-use Prim.Native.Nat.{ℕ, ◌+◌, ◌%◌}
+-- The first rule that a chunk breaks by its numbers is the one which the container says. Assumes nothing.
+use Prim.Native.Nat.{ℕ, ◌+◌}
 use mathlib.Core.Path.{◌≡◌, refl}
 use mathlib.Core.List.{List}
-use mathlib.Core.Bool.{true, false}
-use borrow.Author.Tests.{eq-eqb, ne_eqb}
 use Rattle.word.specs.Numbers.{be16, be32}
 use Rattle.profile.specs.declared.Stream.{Stream}
-use Rattle.profile.specs.Streams.{is_closed, stream_number, is_known}
-use Rattle.profile.specs.Profiles.{plain, broken, broken_by, broken_in}
+use Rattle.profile.specs.Profiles.{broken_by, broken_in}
 
-module _ (c letters header block : ℕ) (stream : Stream) where
-  pub header_broken : (header ≡ 0x18 → ⊥) → broken c 1 0 ≡ broken_in c header block letters stream
-  unfolding broken_in
-  header_broken n = rw (ne_eqb header 0x18 n)
-
-  module _ (e : header ≡ 0x18) where
-    pub block_broken : ((block + 8) % 0x20 ≡ 0 → ⊥) → broken c 2 0 ≡ broken_in c header block letters stream
-    unfolding broken_in
-    block_broken n = rw (eq-eqb header 0x18 e, ne_eqb ((block + 8) % 0x20) 0 n)
-
-    module _ (m : (block + 8) % 0x20 ≡ 0) where
-      pub closed-broken : is_closed stream ≡ true → broken c 3 (stream_number letters) ≡ broken_in c header block letters stream
-      unfolding broken_in
-      closed-broken t = rw (eq-eqb header 0x18 e, eq-eqb ((block + 8) % 0x20) 0 m, t)
-
-      pub none_broken : is_closed stream ≡ false → is_known letters ≡ true → plain ≡ broken_in c header block letters stream
-      unfolding broken_in
-      none_broken t k = rw (eq-eqb header 0x18 e, eq-eqb ((block + 8) % 0x20) 0 m, t, k)
-
-      pub letters_broken : is_closed stream ≡ false → is_known letters ≡ false → broken c 4 0 ≡ broken_in c header block letters stream
-      unfolding broken_in
-      letters_broken t k = rw (eq-eqb header 0x18 e, eq-eqb ((block + 8) % 0x20) 0 m, t, k)
-
--- by the numbers that stand in a container
 pub by_numbers : (container : List ℕ) (c letters : ℕ) (stream : Stream) → broken_in c (be16 container (c + 8)) (be32 container (c + 4)) letters stream ≡ broken_by container c letters stream
 unfolding broken_by broken_in
 by_numbers container c letters stream = refl

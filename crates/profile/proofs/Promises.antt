@@ -1,8 +1,10 @@
 -- The promises of specs/Promises.antt, each under its name: the verdict goes chunk by chunk, and how both streams stand is told by the chunks before. Assumes nothing.
+use Rattle.std.specs.Prelude.{Ok, Result}
+use Rattle.refusal.specs.declared.Refusal.{Refusal}
 use Prim.Native.Nat.{ℕ, ◌+◌, ◌%◌}
-use mathlib.Core.Path.{◌≡◌, refl, sym, ap, ap₂, ◌∙◌, subst}
+use mathlib.Core.Path.{◌≡◌, refl, sym, ap, ◌∙◌, subst}
 use mathlib.Core.Logic.{◌⊎◌, inl, inr, ⊎_elim}
-use mathlib.Core.Bool.{Bool, true, false, not, cond, ◌||◌, ◌&&◌, false≢true}
+use mathlib.Core.Bool.{Bool, true, false, cond, ◌||◌, ◌&&◌, false≢true}
 use mathlib.Core.List.{List, [], ◌∷◌, ◌++◌, append-nil}
 use native.Mathlib.Omega.{arith}
 use lib.ListN.{length}
@@ -12,12 +14,9 @@ use borrow.Author.Tests.{eq-eqb, eqb-true, eqb-false}
 use Rattle.word.specs.Numbers.{be16, be32}
 use Rattle.signature.specs.Signatures.{SFV, SFA}
 use Rattle.chunk.specs.declared.Chunk.{Chunk}
-use Rattle.film.specs.Films.{film, film_of}
 use Rattle.profile.specs.declared.Verdict.{Verdict}
-use Rattle.profile.specs.declared.Profiled.{Profiled}
-use Rattle.profile.specs.declared.Profiled.TheVariants as profiled
-use Rattle.profile.specs.Streams.{is_closed, stream_of, stream_number, is_known, first_of, after_kind}
-use Rattle.profile.specs.Profiles.{plain, broken, broken_by, missing, letters_at, judged_at, first_broken, judged, heard, profile_of}
+use Rattle.profile.specs.Streams.{stream_number, is_known, first_of}
+use Rattle.profile.specs.Profiles.{plain, broken_by, missing, letters_at, judged_at, first_broken, judged, profile_of}
 use Rattle.profile.specs.Promises as promised
 use Rattle.profile.specs.Promises.{ended, HeaderPlain, SizePlain, LettersKnown, PlainFilm, is_present, Keeps, KeepAll, Breaks, header_broken, size_broken, video_closed, audio_closed, letters_broken, FirstOf, none_broken, at_chunk, video_open, audio_open}
 use Rattle.profile.proofs.StandLaws.{stands, standing, starts, goes_on, closed_is}
@@ -174,7 +173,7 @@ module _ (container : List ℕ) (audio : Bool) where
 
 -- ---- the promises
 
-same_verdict : (verdict verdict' : Verdict) → profiled.Judged verdict ≡ profiled.Judged verdict' → verdict ≡ verdict'
+same_verdict : (verdict verdict' : Verdict) → ◌≡◌ {A = Result Verdict Refusal} (Ok verdict) (Ok verdict') → verdict ≡ verdict'
 same_verdict verdict verdict' e = cc
 
 pub FirstBroken : promised.FirstBroken
@@ -187,7 +186,7 @@ pub PlainExactlyWhen : promised.PlainExactlyWhen
 unfolding profile_of
 PlainExactlyWhen container header applied chunks f = (
   λ e. plain_film container header.audio chunks plain (FirstBroken container header applied chunks plain f e) refl,
-  λ p. rw f (ap profiled.Judged (is_plain container header.audio chunks (judged container (first_of header.audio) chunks) (judge_film container header.audio chunks) p)),
+  λ p. rw f (ap Ok (is_plain container header.audio chunks (judged container (first_of header.audio) chunks) (judge_film container header.audio chunks) p)),
 )
 
 pub RefusedBeforeAnyRule : promised.RefusedBeforeAnyRule

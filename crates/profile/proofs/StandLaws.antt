@@ -1,11 +1,11 @@
 -- How both streams stand after some chunks: closed exactly if an end chunk of their letters was among them. Assumes nothing.
-use Prim.Native.Nat.{ℕ, ◌+◌, ◌%◌}
+use Prim.Native.Nat.{ℕ}
 use mathlib.Core.Path.{◌≡◌, refl, sym, ap, ap₂, ◌∙◌}
 use mathlib.Core.Bool.{Bool, true, false, cond, ◌||◌, ◌&&◌}
 use mathlib.Core.List.{List, [], ◌∷◌, ◌++◌}
 use native.Mathlib.Omega.{arith}
 use lib.Dec.{eqb}
-use borrow.Author.Tests.{eqb-true, eq-eqb}
+use borrow.Author.Tests.{eqb-true}
 use Rattle.signature.specs.Signatures.{SFV, SFA}
 use Rattle.chunk.specs.declared.Kind.{Kind}
 use Rattle.chunk.specs.declared.Kind.TheVariants.{Video, Audio, Other, End}
@@ -13,7 +13,7 @@ use Rattle.chunk.specs.declared.Chunk.{Chunk}
 use Rattle.profile.specs.declared.Stream.{Stream}
 use Rattle.profile.specs.declared.Stream.TheVariants.{Absent, Open, Closed}
 use Rattle.profile.specs.declared.Streams.{Streams}
-use Rattle.profile.specs.Streams.{is_open, is_closed, closing, stream_of, first_of, after_end, after_kind}
+use Rattle.profile.specs.Streams.{is_closed, closing, stream_of, first_of, after_end, after_kind}
 use Rattle.profile.specs.Profiles.{letters_at}
 use Rattle.profile.specs.Promises.{any_of, is_end, is_end_of, ended, is_present}
 

@@ -16,8 +16,8 @@ use Rattle.profile.specs.declared.Streams.{Streams}
 use Rattle.profile.specs.declared.Verdict.{Verdict}
 use Rattle.profile.specs.declared.steps.Profiling.{Profiling}
 use Rattle.profile.specs.Streams.{after_end, after_kind}
-use Rattle.profile.specs.Profiles.{plain, judged_in, missing, letters_at, judged_at, first_broken, judged}
-use Rattle.profile.specs.Steps.{state_number, state_by, verdict_in, streams_in, in_numbers, stepped, ended, gathered}
+use Rattle.profile.specs.Profiles.{judged_in, missing, letters_at, judged_at, first_broken, judged}
+use Rattle.profile.specs.Steps.{state_number, state_by, streams_in, in_numbers, stepped, ended, gathered}
 
 -- ---- a stream in numbers and back
 

@@ -1,5 +1,6 @@
 -- Request 14: "a check with its own rules over a container accepted with audio chosen". The rules have the numbers 1 to 4, in their order.
-use Rattle.std.specs.Prelude.{ℕ, ◌+◌, ◌%◌, List, [], ◌∷◌, cond, not, length, eqb}
+use Rattle.std.specs.Prelude.{ℕ, ◌+◌, ◌%◌, List, [], ◌∷◌, cond, not, length, eqb, Result, Ok, Err}
+use Rattle.refusal.specs.declared.Refusal.{Refusal}
 use Rattle.word.specs.Numbers.{be16, be32}
 use Rattle.refusal.specs.Numbers.{number_of, beside_of}
 use Rattle.reading.specs.declared.Reading.{Reading}
@@ -10,8 +11,6 @@ use Rattle.film.specs.Films.{Film, film, refused, film_of}
 use Rattle.profile.specs.declared.Stream.{Stream}
 use Rattle.profile.specs.declared.Streams.{Streams}
 use Rattle.profile.specs.declared.Verdict.{Verdict}
-use Rattle.profile.specs.declared.Profiled.{Profiled}
-use Rattle.profile.specs.declared.Profiled.TheVariants as profiled
 use Rattle.profile.specs.declared.ProfileReply.{ProfileReply}
 use Rattle.profile.specs.Streams.{is_open, is_closed, stream_of, stream_number, is_known, first_of, after_kind}
 
@@ -72,14 +71,14 @@ judged container streams (chunk ∷ chunks) =
 abbrev pub heard : Reading
 heard = as_original Chosen
 
-abbrev pub profiled_as : List ℕ → Film → Profiled
-profiled_as container (film header applied chunks) = profiled.Judged (judged container (first_of header.audio) chunks)
-profiled_as container (refused refusal) = profiled.Refused refusal
+abbrev pub profiled_as : List ℕ → Film → Result Verdict Refusal
+profiled_as container (film header applied chunks) = Ok (judged container (first_of header.audio) chunks)
+profiled_as container (refused refusal) = Err refusal
 
-unfoldable pub profile_of : List ℕ → Profiled
+unfoldable pub profile_of : List ℕ → Result Verdict Refusal
 profile_of container = profiled_as container (film_of container heard)
 
 -- the answer as C reads it
-abbrev pub profile_reply : Profiled → ProfileReply
-profile_reply (profiled.Judged verdict) = record { refused_at = 0; place = verdict.place; number = 0; unknown_type = 0; rule = verdict.rule; stream = verdict.stream }
-profile_reply (profiled.Refused refusal) = record { refused_at = refusal.place; place = 0; number = number_of refusal.cause; unknown_type = (beside_of refusal.cause).unknown_type; rule = 0; stream = 0 }
+abbrev pub profile_reply : Result Verdict Refusal → ProfileReply
+profile_reply (Ok verdict) = record { refused_at = 0; place = verdict.place; number = 0; unknown_type = 0; rule = verdict.rule; stream = verdict.stream }
+profile_reply (Err refusal) = record { refused_at = refusal.place; place = 0; number = number_of refusal.cause; unknown_type = (beside_of refusal.cause).unknown_type; rule = 0; stream = 0 }

@@ -1,5 +1,5 @@
 -- Request 14 in its own words: which films are plain, and what is answered of the others. Each promise is proved under the same name in proofs/Promises.antt.
-use Rattle.std.specs.Prelude.{ℕ, ◌+◌, ◌%◌, ◌≡◌, ◌↔◌, ◌⊎◌, Bool, true, false, ◌||◌, ◌&&◌, List, [], ◌∷◌, ◌++◌, length, eqb}
+use Rattle.std.specs.Prelude.{ℕ, ◌+◌, ◌%◌, ◌≡◌, ◌↔◌, ◌⊎◌, Bool, true, false, ◌||◌, ◌&&◌, List, [], ◌∷◌, ◌++◌, length, eqb, Ok, Err}
 use Rattle.word.specs.Numbers.{be16, be32}
 use Rattle.signature.specs.Signatures.{SFV, SFA}
 use Rattle.refusal.specs.declared.Refusal.{Refusal}
@@ -10,7 +10,6 @@ use Rattle.chunk.specs.declared.Chunk.{Chunk}
 use Rattle.header.specs.declared.Header.{Header}
 use Rattle.film.specs.Films.{film, refused, film_of}
 use Rattle.profile.specs.declared.Verdict.{Verdict}
-use Rattle.profile.specs.declared.Profiled.TheVariants as profiled
 use Rattle.profile.specs.Profiles.{plain, broken, letters_at, heard, profile_of}
 
 -- ---- chunks among chunks
@@ -78,7 +77,7 @@ pub record PlainFilm (container : List ℕ) (audio : Bool) (chunks : List Chunk)
 abbrev pub PlainExactlyWhen : Type 0
 PlainExactlyWhen =
     (container : List ℕ) (header : Header) (applied : Applied) (chunks : List Chunk) → film_of container heard ≡ film header applied chunks
-    → (profile_of container ≡ profiled.Judged plain) ↔ PlainFilm container header.audio chunks
+    → (profile_of container ≡ Ok plain) ↔ PlainFilm container header.audio chunks
 
 -- ---- the first that is broken
 
@@ -120,8 +119,8 @@ pub data FirstOf (container : List ℕ) (audio : Bool) (chunks : List Chunk) : V
 abbrev pub FirstBroken : Type 0
 FirstBroken =
     (container : List ℕ) (header : Header) (applied : Applied) (chunks : List Chunk) (verdict : Verdict) → film_of container heard ≡ film header applied chunks
-    → profile_of container ≡ profiled.Judged verdict → FirstOf container header.audio chunks verdict
+    → profile_of container ≡ Ok verdict → FirstOf container header.audio chunks verdict
 
 -- "Refusals: the walk's own, before any rule is tried"
 abbrev pub RefusedBeforeAnyRule : Type 0
-RefusedBeforeAnyRule = (container : List ℕ) (refusal : Refusal) → film_of container heard ≡ refused refusal → profile_of container ≡ profiled.Refused refusal
+RefusedBeforeAnyRule = (container : List ℕ) (refusal : Refusal) → film_of container heard ≡ refused refusal → profile_of container ≡ Err refusal

@@ -7,7 +7,7 @@ ghost use Rattle.profile.specs.Streams.{after_kind};
 ghost use Rattle.profile.specs.Profiles.{first_broken};
 ghost use Rattle.profile.specs.Steps.{state_number, state_by, verdict_in, streams_in, in_numbers, begun, stepped, ended};
 
-use crate::{Stream, Streams, Verdict, after_end, first_of, judge_chunk, missing, none_broken};
+use crate::{PLAIN, Stream, Streams, Verdict, after_end, first_of, judge_chunk, missing};
 
 // What the chunks so far have shown: the first rule that was broken, as in a verdict, and how both streams stand: 0 absent,
 // 1 open, 2 closed.
@@ -21,7 +21,7 @@ pub struct Profiling {
     pub audio: u8,
 }
 
-// The number of how a stream stands.
+// The number of how a stream stands: what C keeps of it.
 fn state_number(stream: Stream) -> u8
     ensures { result ≡ state_number stream }
 {
@@ -33,16 +33,15 @@ fn state_number(stream: Stream) -> u8
 }
 
 // How a stream stands, by a number.
+#[tactic(auto, unfolding(crate::specs::Steps::state_by))]
 fn state_by(number: u8) -> Stream
     ensures { result ≡ state_by number }
 {
-    if number == 0 {
-        return Stream::Absent;
+    match number {
+        0 => Stream::Absent,
+        1 => Stream::Open,
+        _ => Stream::Closed,
     }
-    if number == 1 {
-        return Stream::Open;
-    }
-    Stream::Closed
 }
 
 // How both streams stand so far.
@@ -59,14 +58,12 @@ fn streams_in(known: Profiling) -> Streams
 fn in_numbers(verdict: Verdict, streams: Streams) -> Profiling
     ensures { result ≡ in_numbers verdict streams }
 {
-    let video = streams.video;
-    let audio = streams.audio;
     Profiling {
         place: verdict.place,
         rule: verdict.rule,
         stream: verdict.stream,
-        video: state_number(video),
-        audio: state_number(audio),
+        video: state_number(streams.video),
+        audio: state_number(streams.audio),
     }
 }
 
@@ -98,10 +95,11 @@ fn after_chunk(bytes: &[u8], streams: Streams) -> Streams
 pub fn begin(audio: bool) -> Profiling
     ensures { result ≡ begun audio }
 {
-    in_numbers(none_broken(), first_of(audio))
+    in_numbers(PLAIN, first_of(audio))
 }
 
 // What is known after one chunk more, by the bytes that stand at its place. 45 are enough; those that are missing count as 0.
+#[tactic(auto, unfolding(crate::specs::Steps::stepped))]
 pub fn step(bytes: &[u8], place: usize, known: Profiling) -> Profiling
     ensures { result ≡ stepped bytes.now place known }
 {

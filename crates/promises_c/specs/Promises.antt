@@ -1,18 +1,14 @@
 -- What is promised of the functions for C, on the replies that they give and on what they leave in outputs. Each is proved under the same name in proofs/Promises.antt.
-use Rattle.std.specs.Prelude.{ℕ, ◌+◌, ◌≤◌, ◌≡◌, true, false, ◌↔◌, ◌⊎◌, List, [], length, take, drop}
+use Rattle.std.specs.Prelude.{ℕ, ◌+◌, ◌≤◌, ◌≡◌, true, false, ◌↔◌, ◌⊎◌, List, [], length, take, drop, Option, Some, Ok}
 use Rattle.std.proofs.lemmas.List.Edits.{sets}
 use Rattle.part.specs.Parts.{part_at}
 use Rattle.reading.specs.declared.TableMode.{TableMode}
 use Rattle.reading.specs.declared.Reading.{Reading}
 use Rattle.reading.specs.Choices.{takes_channel}
 use Rattle.key.specs.LaneBits.{AgreeIn}
-use Rattle.unmasking.specs.declared.Key.{Key}
-use Rattle.unmasking.specs.declared.Key.TheVariants.{Given}
 use Rattle.film.specs.Films.{film_of}
-use Rattle.extract.specs.declared.Extracted.TheVariants as extracted
 use Rattle.replies.specs.declared.FilmReply.{FilmReply}
 use Rattle.replies.specs.FilmReplies.{film_reply}
-use Rattle.lent.specs.declared.Written.TheVariants.{Size}
 use Rattle.lent.specs.declared.SizeReply.{SizeReply}
 use Rattle.lent.specs.Written.{size_reply}
 use Rattle.write_plan.specs.declared.Packing.{Packing}
@@ -78,7 +74,7 @@ BytesPastTheSizeStay =
 -- Request 10: both sizes that `usm_extract` replies together never exceed the container: for every reading, and with every number, 12 too.
 abbrev pub EverySizeFits : Type 0
 EverySizeFits =
-    (container : List ℕ) (reading : Reading) (key : Key) (fallback video audio : List ℕ) (r : FilmReply) (video_after audio_after : List ℕ)
+    (container : List ℕ) (reading : Reading) (key : Option ℕ) (fallback video audio : List ℕ) (r : FilmReply) (video_after audio_after : List ℕ)
     → FilmReplied container reading key fallback video audio r video_after audio_after → r.video_size + r.audio_size ≤ length container
 
 -- What `usm_salvage` keeps is accepted, with what it drops it is the container, and why it was cut is 0 where nothing was, else 1 or 9.
@@ -93,7 +89,7 @@ KeptIsAccepted =
 -- what `usm_extract` replies and leaves where it gives back a film: name, codecs, whether there is audio, both streams
 abbrev pub RepliesBack : List ℕ → List ℕ → List ℕ → Packing → List ℕ → List ℕ → List ℕ → List ℕ → FilmReply → List ℕ → List ℕ → Type 0
 RepliesBack name video audio packing container fallback seen heard r seen' heard' =
-    (r ≡ film_reply (length fallback) (extracted.Film (contents_back name video audio packing))) × (part_at container r.name_start r.name_length ≡ name)
+    (r ≡ film_reply (length fallback) (Ok (contents_back name video audio packing))) × (part_at container r.name_start r.name_length ≡ name)
     × (seen' ≡ sets seen 0 video) × (heard' ≡ sets heard 0 audio)
 
 -- What `usm_write` writes, `usm_extract` reads back with audio taken, under the same key or without one in both.
@@ -126,7 +122,7 @@ CsvIsReadBack =
 
 -- so many bytes stand at the output's front, and the reply says how many
 abbrev pub Gives : List ℕ → List ℕ → SizeReply → List ℕ → Type 0
-Gives bytes out r out' = (r ≡ size_reply (Size (length bytes))) × (out' ≡ sets out 0 bytes)
+Gives bytes out r out' = (r ≡ size_reply (Ok (length bytes))) × (out' ≡ sets out 0 bytes)
 
 -- What `usm_from_old` moves, with whatever codecs, `usm_to_old` gives back.
 abbrev pub OldAgain : Type 0
@@ -166,6 +162,6 @@ MovedIsPlain =
 abbrev pub SameStreamsExactlyWhenBitsAgree : Type 0
 SameStreamsExactlyWhenBitsAgree =
     (container : List ℕ) (reading : Reading) (key key' : ℕ) (fallback video audio video_after audio_after video_after' audio_after' : List ℕ) (r r' : FilmReply) (shown : KeyBitsReply)
-    → FilmReplied container reading (Given key) fallback video audio r video_after audio_after → FilmReplied container reading (Given key') fallback video audio r' video_after' audio_after'
+    → FilmReplied container reading (Some key) fallback video audio r video_after audio_after → FilmReplied container reading (Some key') fallback video audio r' video_after' audio_after'
     → r.number ≡ 0 → shown ≡ key_bits_reply (key_bits_in (film_of container reading))
     → AgreeIn shown.bits key key' ↔ ((video_after ≡ video_after') × (audio_after ≡ audio_after'))

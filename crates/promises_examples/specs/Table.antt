@@ -1,16 +1,14 @@
 -- The checked examples: P1 to P11.
-use Rattle.std.specs.Prelude.{ℕ, ◌^◌, ◌≡◌, List, [], ◌∷◌, map, take}
+use Rattle.std.specs.Prelude.{ℕ, ◌^◌, ◌≡◌, List, [], ◌∷◌, map, take, Option, None, Result, Ok, Err}
+use Rattle.cell.specs.declared.Cell.{Cell}
+use Rattle.refusal.specs.declared.Cause.{Cause}
 use Rattle.laws.specs.Lists.{tab, at}
 use Rattle.key.specs.KeyTable.{table_t, keys_of}
 use Rattle.mask.specs.Video.{unmasked_video}
 use Rattle.mask.specs.Audio.{masked_audio}
 use Rattle.reading.specs.declared.TableMode.TheVariants.{Original}
 use Rattle.layout.specs.declared.Layout.{Layout}
-use Rattle.cell.specs.declared.CellAnswer.{CellAnswer}
-use Rattle.cell.specs.declared.CellAnswer.TheVariants.{Got, Refused}
 use Rattle.cell.specs.Cells.{cell_at}
-use Rattle.codec.specs.declared.Codec.{Codec}
-use Rattle.codec.specs.declared.Codec.TheVariants.{Absent}
 use Rattle.codec.specs.declared.VideoKind.TheVariants.{Ivf}
 use Rattle.codec.specs.Codecs.{codec_of}
 use Rattle.codec.specs.Kinds.{video_kind}
@@ -30,20 +28,20 @@ abbrev pub bytes_at : List ℕ → List ℕ → List ℕ
 bytes_at positions bytes = map (at bytes) positions
 
 -- the codec of a cell that was read; a refused one has none
-abbrev pub codec_read : CellAnswer → Codec
-codec_read (Got cell) = codec_of cell
-codec_read (Refused cause) = Absent
+abbrev pub codec_read : Result Cell Cause → Option ℕ
+codec_read (Ok cell) = codec_of cell
+codec_read (Err cause) = None
 
 -- a table without strings and data
 abbrev pub plain : Layout
 plain = record { size = 0; columns = 0; rows = 0; start = 0; strings = 0; blobs = 0; mode = Original }
 
 -- the codec of the cell of a type that stands at the start of a body
-abbrev pub codec_in : List ℕ → ℕ → Codec
+abbrev pub codec_in : List ℕ → ℕ → Option ℕ
 codec_in body type = codec_read (cell_at body type 0 plain)
 
 -- a codec's number and the number of the video kind that follows
-abbrev pub numbers_of : Codec → List ℕ
+abbrev pub numbers_of : Option ℕ → List ℕ
 numbers_of codec = value_of codec ∷ video_number (video_kind codec) ∷ []
 
 abbrev pub p : ℕ → List ℕ → List ℕ → Example

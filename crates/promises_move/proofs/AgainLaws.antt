@@ -1,4 +1,7 @@
 -- What is moved is found where it is moved to, and its parts are the same. Assumes nothing.
+use Rattle.std.specs.Prelude.{Option, Result, Ok, Err}
+use Rattle.header.specs.declared.Header.{Header}
+use Rattle.refusal.specs.declared.Refusal.{Refusal}
 use Prim.Native.Nat.{ℕ, ◌+◌, ◌≤◌}
 use mathlib.Core.Path.{◌≡◌, refl, sym, ap, ◌∙◌, subst}
 use mathlib.Core.List.{List, []}
@@ -12,12 +15,7 @@ use Rattle.refusal.specs.declared.Cause.TheVariants.{TooLong, Foreign}
 use Rattle.signature.specs.Signatures.{same_bytes}
 use Rattle.reading.specs.declared.AudioChoice.TheVariants.{Chosen}
 use Rattle.reading.specs.Choices.{as_original}
-use Rattle.codec.specs.declared.Codec.{Codec}
 use Rattle.utf8.specs.Utf8.{is_utf8}
-use Rattle.header.specs.declared.HeaderAnswer.{HeaderAnswer}
-use Rattle.header.specs.declared.HeaderAnswer.TheVariants.{Read, Refused}
-use Rattle.lent.specs.declared.Written.{Written}
-use Rattle.lent.specs.declared.Written.TheVariants.{Size}
 use Rattle.write_plan.specs.declared.Packing.{Packing}
 use Rattle.write_plan.specs.Payloads.{payloads_of}
 use Rattle.write_plan.specs.Planning.{is_given, any_marked, refused_by, planned_of}
@@ -43,24 +41,24 @@ use Rattle.promises_move.proofs.ShortLaws.{old_short}
 
 -- ---- what is known where a size is answered
 
-refused_not : (t : Bool) (cause : Cause) (p : Written) (n : ℕ) → cond t (refused_by cause) p ≡ Size n → (t ≡ false) × (p ≡ Size n)
+refused_not : (t : Bool) (cause : Cause) (p : Result ℕ Refusal) (n : ℕ) → cond t (refused_by cause) p ≡ Ok n → (t ≡ false) × (p ≡ Ok n)
 refused_not true cause p n e = let z : ◌≡◌ {A = ℕ} 0 1 = cc in absurd (omega arith)
 refused_not false cause p n e = (refl, e)
 
-foreign_not : (t : Bool) (cause : Cause) (p : Written) (n : ℕ) → cond t p (refused_by cause) ≡ Size n → (t ≡ true) × (p ≡ Size n)
+foreign_not : (t : Bool) (cause : Cause) (p : Result ℕ Refusal) (n : ℕ) → cond t p (refused_by cause) ≡ Ok n → (t ≡ true) × (p ≡ Ok n)
 foreign_not true cause p n e = (refl, e)
 foreign_not false cause p n e = let z : ◌≡◌ {A = ℕ} 0 1 = cc in absurd (omega arith)
 
 -- ---- a film that is moved onward
 
-module _ (film : List ℕ) (mpeg other : Codec) (n : ℕ) (e : from_old film mpeg other ≡ Size n) where
+module _ (film : List ℕ) (mpeg other : Option ℕ) (n : ℕ) (e : from_old film mpeg other ≡ Ok n) where
   abbrev P : old.Parts
   P = old.parts_of film
 
   abbrev by : Packing
   by = packing_of P.audio mpeg other
 
-  pub moved_so : (length film ≤ 0x40000000) × (old.is_old film ≡ true) × (new_plan P mpeg other ≡ Size n)
+  pub moved_so : (length film ≤ 0x40000000) × (old.is_old film ≡ true) × (new_plan P mpeg other ≡ Ok n)
   unfolding from_old
   moved_so =
       let a = refused_not (ltb 0x40000000 (length film)) TooLong _ n e in
@@ -100,16 +98,16 @@ module _ (film : List ℕ) (mpeg other : Codec) (n : ℕ) (e : from_old film mpe
   pub back_is : old_of (new.parts_of bytes) ≡ film
   back_is = rw (found.1.0, found.1.1, found.1.3, found.1.4) (sym film_is.1)
 
-  pub back_planned : to_old bytes ≡ Size (length film)
+  pub back_planned : to_old bytes ≡ Ok (length film)
   unfolding to_old
-  back_planned = rw (le-ltb 0x40000000 (length bytes) moved_taken.within, found.0) (ap (λ (l : List ℕ). Size (length l)) back_is)
+  back_planned = rw (le-ltb 0x40000000 (length bytes) moved_taken.within, found.0) (ap (λ (l : List ℕ). Ok (length l)) back_is)
 
 -- ---- a container that is moved back
 
-alone_not : (c : List ℕ) (answer : HeaderAnswer) → answer_in c ≡ answer → is_new_by c answer ≡ true
+alone_not : (c : List ℕ) (answer : Result Header Refusal) → answer_in c ≡ answer → is_new_by c answer ≡ true
     → (not (packing_by (header_by answer)).audio && is_given (packing_by (header_by answer)).audio_codec) ≡ false
-alone_not c (Read head) e t = not_alone c (as_original Chosen) head e
-alone_not c (Refused refusal) e t = let z : ◌≡◌ {A = ℕ} 0 1 = cc in absurd (omega arith)
+alone_not c (Ok head) e t = not_alone c (as_original Chosen) head e
+alone_not c (Err refusal) e t = let z : ◌≡◌ {A = ℕ} 0 1 = cc in absurd (omega arith)
 
 module _ (c : List ℕ) (t : new.is_new c ≡ true) where
   abbrev Q : new.Parts
@@ -135,10 +133,10 @@ module _ (c : List ℕ) (t : new.is_new c ≡ true) where
   new_short = omega (arith, ap length (is_rebuilt_lem c t).1, old_short Q.name Q.read.video Q.read.audio Q.packing (silent c))
 
   module _ (within : length c ≤ 0x40000000) where
-    abbrev mpeg : Codec
+    abbrev mpeg : Option ℕ
     mpeg = Q.packing.mpeg_codec
 
-    abbrev other : Codec
+    abbrev other : Option ℕ
     other = Q.packing.audio_codec
 
     abbrev back : List ℕ
@@ -150,17 +148,17 @@ module _ (c : List ℕ) (t : new.is_new c ≡ true) where
     pub onward_is : new_bytes (old.parts_of back) mpeg other ≡ c
     onward_is = rw (there.1.0, there.1.1, there.1.3, there.1.4, packing_is) (sym (is_rebuilt_lem c t).1)
 
-    plan_is : planned_of Q.name Q.read.video Q.read.audio Q.packing ≡ Size (length c)
+    plan_is : planned_of Q.name Q.read.video Q.read.audio Q.packing ≡ Ok (length c)
     unfolding planned_of
     plan_is = rw (given, unmarked, ← (is_rebuilt_lem c t).1, le-ltb 0x40000000 (length c) within)
 
-    pub onward_planned : from_old back mpeg other ≡ Size (length c)
+    pub onward_planned : from_old back mpeg other ≡ Ok (length c)
     unfolding from_old
     onward_planned =
         rw (le-ltb 0x40000000 (length back) (omega (arith, new_short, within)), there.0)
         (rw (there.1.0, there.1.1, there.1.3, there.1.4, packing_is) plan_is)
 
-pub back_so : (c : List ℕ) (n : ℕ) → to_old c ≡ Size n → (length c ≤ 0x40000000) × (new.is_new c ≡ true) × (length (old_of (new.parts_of c)) ≡ n)
+pub back_so : (c : List ℕ) (n : ℕ) → to_old c ≡ Ok n → (length c ≤ 0x40000000) × (new.is_new c ≡ true) × (length (old_of (new.parts_of c)) ≡ n)
 unfolding to_old
 back_so c n e =
     let a = refused_not (ltb 0x40000000 (length c)) TooLong _ n e in

@@ -1,11 +1,10 @@
 -- A codec's cell holds the low 32 bits of its number, so that a film is the same with those alone. Assumes nothing.
+use Rattle.std.specs.Prelude.{Option, Some, None}
 use Prim.Native.Nat.{ℕ, ◌/◌, ◌%◌, ◌^◌}
 use mathlib.Core.Path.{◌≡◌, refl, sym, ap, ◌∙◌}
 use mathlib.Core.List.{List, ◌++◌}
 use mathlib.Core.Bool.{Bool}
 use native.Mathlib.Omega.{arith}
-use Rattle.codec.specs.declared.Codec.{Codec}
-use Rattle.codec.specs.declared.Codec.TheVariants.{Value, Absent}
 use Rattle.signature.specs.Signatures.{mpeg_codec, audio_codec}
 use Rattle.write_blocks.specs.Tables.{codec_table}
 use Rattle.write_plan.specs.Films.{header_blocks, film_bytes}
@@ -16,29 +15,29 @@ use Rattle.turns.specs.Turns.{chunks_of}
 use Rattle.moved_film.proofs.FilmLaws.{header, ends, film_laid}
 use Rattle.film_move.specs.FromOld.{packing_of}
 
-abbrev pub low : Codec → Codec
-low (Value n) = Value (n % 2 ^ 32)
-low Absent = Absent
+abbrev pub low : Option ℕ → Option ℕ
+low (Some n) = Some (n % 2 ^ 32)
+low None = None
 
-pub low_fits : (codec : Codec) → CodecFits (low codec)
-low_fits (Value n) = omega arith
-low_fits Absent = tt
+pub low_fits : (codec : Option ℕ) → CodecFits (low codec)
+low_fits (Some n) = omega arith
+low_fits None = tt
 
-low_given : (codec : Codec) → is_given (low codec) ≡ is_given codec
-low_given (Value n) = refl
-low_given Absent = refl
+low_given : (codec : Option ℕ) → is_given (low codec) ≡ is_given codec
+low_given (Some n) = refl
+low_given None = refl
 
-low_table : (column : List ℕ) (codec : Codec) → codec_table column (low codec) ≡ codec_table column codec
+low_table : (column : List ℕ) (codec : Option ℕ) → codec_table column (low codec) ≡ codec_table column codec
 unfolding codec_table
-low_table column (Value n) =
+low_table column (Some n) =
     let a : n % 2 ^ 32 / 2 ^ 24 % 2 ^ 8 ≡ n / 2 ^ 24 % 2 ^ 8 = omega arith in
     let b : n % 2 ^ 32 / 2 ^ 16 % 2 ^ 8 ≡ n / 2 ^ 16 % 2 ^ 8 = omega arith in
     let c : n % 2 ^ 32 / 2 ^ 8 % 2 ^ 8 ≡ n / 2 ^ 8 % 2 ^ 8 = omega arith in
     let d : n % 2 ^ 32 % 2 ^ 8 ≡ n % 2 ^ 8 = omega arith in
     rw (a, b, c, d)
-low_table column Absent = refl
+low_table column None = refl
 
-module _ (name video sound : List ℕ) (audio : Bool) (mpeg other : Codec) where
+module _ (name video sound : List ℕ) (audio : Bool) (mpeg other : Option ℕ) where
   low_header : header name (packing_of audio (low mpeg) (low other)) ≡ header name (packing_of audio mpeg other)
   unfolding header_blocks
   low_header = rw (low_table mpeg_codec mpeg, low_table audio_codec other)

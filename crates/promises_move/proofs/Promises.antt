@@ -1,4 +1,6 @@
 -- The promises of specs/Promises.antt, each under its name. Assumes nothing.
+use Rattle.std.specs.Prelude.{Option, Result, Ok}
+use Rattle.refusal.specs.declared.Refusal.{Refusal}
 use Prim.Native.Nat.{ℕ, ◌+◌, ◌≤◌, ◌<◌}
 use mathlib.Core.Path.{◌≡◌, refl, sym, ap, ap₂, ◌∙◌, subst}
 use mathlib.Core.List.{List, [], ◌∷◌}
@@ -9,9 +11,6 @@ use lib.Seq.{sets, sets-eq, length-sets, take_at, drop_at}
 use borrow.Author.Tests.{le-ltb}
 use Rattle.refusal.specs.declared.Cause.{Cause}
 use Rattle.refusal.specs.declared.Cause.TheVariants.{Foreign, ManyAudios}
-use Rattle.codec.specs.declared.Codec.{Codec}
-use Rattle.lent.specs.declared.Written.{Written}
-use Rattle.lent.specs.declared.Written.TheVariants.{Size}
 use Rattle.lent.specs.Written.{written_in, left_by}
 use Rattle.lent.proofs.RoomLaws.{planned_so}
 use Rattle.unmasking.specs.Unmasking.{unmasking_of}
@@ -47,11 +46,11 @@ taken out bytes n e fits =
     ap (take n) (sets-eq bytes out 0 room) ∙ take_at bytes (drop (0 + length bytes) out) n (sym e)
 
 -- what is planned gives bytes, wherever there is room for them
-given : (bytes put out out' : List ℕ) (planned r : Written) → planned ≡ Size (length bytes) → put ≡ bytes → length bytes ≤ length out → r ≡ written_in (length out) planned
+given : (bytes put out out' : List ℕ) (planned r : Result ℕ Refusal) → planned ≡ Ok (length bytes) → put ≡ bytes → length bytes ≤ length out → r ≡ written_in (length out) planned
     → out' ≡ left_by r out put → Gives bytes out r out'
 given bytes put out out' planned r p s room e f =
-    let answer : r ≡ Size (length bytes) = e ∙ ap (written_in (length out)) p ∙ rw (le-ltb (length out) (length bytes) room) in
-    (answer, f ∙ ap₂ (λ (t : Written) (l : List ℕ). left_by t out l) answer s)
+    let answer : r ≡ Ok (length bytes) = e ∙ ap (written_in (length out)) p ∙ rw (le-ltb (length out) (length bytes) room) in
+    (answer, f ∙ ap₂ (λ (t : Result ℕ Refusal) (l : List ℕ). left_by t out l) answer s)
 
 -- ---- old to new to old
 
@@ -66,13 +65,13 @@ OldAgain film mpeg other out out' size back back' r w room b =
 -- ---- new to old to new
 
 module _ (c : List ℕ) (t : new.is_new c ≡ true) (within : length c ≤ 0x40000000) where
-  abbrev mpeg : Codec
+  abbrev mpeg : Option ℕ
   mpeg = (new.parts_of c).packing.mpeg_codec
 
-  abbrev other : Codec
+  abbrev other : Option ℕ
   other = (new.parts_of c).packing.audio_codec
 
-  onward : (out out' : List ℕ) (r : Written) → length c ≤ length out → FromOld (old_of (new.parts_of c)) mpeg other out r out' → Gives c out r out'
+  onward : (out out' : List ℕ) (r : Result ℕ Refusal) → length c ≤ length out → FromOld (old_of (new.parts_of c)) mpeg other out r out' → Gives c out r out'
   onward out out' r room f =
       given c (new_bytes (old.parts_of (old_of (new.parts_of c))) mpeg other) out out' (from_old (old_of (new.parts_of c)) mpeg other) r (onward_planned c t within) (onward_is c t within) room f.0 f.1
 
@@ -90,11 +89,11 @@ NewAgain c out out' size back back' r w room b =
 -- ---- what is refused by 19 and 20
 
 -- what is refused before an output is looked at is refused
-refuses : (cause : Cause) (planned r : Written) (bytes out out' : List ℕ) → planned ≡ refused_by cause → r ≡ written_in (length out) planned → out' ≡ left_by r out bytes
+refuses : (cause : Cause) (planned r : Result ℕ Refusal) (bytes out out' : List ℕ) → planned ≡ refused_by cause → r ≡ written_in (length out) planned → out' ≡ left_by r out bytes
     → RefusesBy cause out r out'
-refuses cause planned r bytes out out' p e f = let q : r ≡ refused_by cause = e ∙ ap (written_in (length out)) p in (q, f ∙ ap (λ (t : Written). left_by t out bytes) q)
+refuses cause planned r bytes out out' p e f = let q : r ≡ refused_by cause = e ∙ ap (written_in (length out)) p in (q, f ∙ ap (λ (t : Result ℕ Refusal). left_by t out bytes) q)
 
-not_built : (c : List ℕ) (mpeg other : Codec) (t u : Bool) → length c ≤ 0x40000000 → old.is_old c ≡ t → is_many c ≡ u → (Built c → ⊥) → from_old c mpeg other ≡ refused_by Foreign
+not_built : (c : List ℕ) (mpeg other : Option ℕ) (t u : Bool) → length c ≤ 0x40000000 → old.is_old c ≡ t → is_many c ≡ u → (Built c → ⊥) → from_old c mpeg other ≡ refused_by Foreign
 unfolding from_old
 not_built c mpeg other true u within e f h = absurd (h (one_built c e))
 not_built c mpeg other false true within e f h = absurd (h (many_built c f))
@@ -104,7 +103,7 @@ pub ForeignIsNotBuilt : promised.ForeignIsNotBuilt
 ForeignIsNotBuilt c mpeg other out out' r w within h =
     refuses Foreign (from_old c mpeg other) r (new_bytes (old.parts_of c) mpeg other) out out' (not_built c mpeg other (old.is_old c) (is_many c) within refl refl h) w.0 w.1
 
-several_told : (name video : List ℕ) (audios : List (List ℕ)) (mpeg other : Codec) → is_utf8 name ≡ true → 1 < length audios → length (old_bytes name video audios) ≤ 0x40000000
+several_told : (name video : List ℕ) (audios : List (List ℕ)) (mpeg other : Option ℕ) → is_utf8 name ≡ true → 1 < length audios → length (old_bytes name video audios) ≤ 0x40000000
     → from_old (old_bytes name video audios) mpeg other ≡ refused_by ManyAudios
 unfolding from_old
 several_told name video [] mpeg other utf8 several within = absurd (omega arith)
@@ -129,7 +128,7 @@ spoken : (audio : Bool) (sound : List ℕ) → (audio ≡ false → sound ≡ []
 spoken true sound silent = refl
 spoken false sound silent = silent refl
 
-others_planned : (name video : List ℕ) (audio : Bool) (sound : List ℕ) (mpeg other : Codec) → is_utf8 name ≡ true → (audio ≡ false → sound ≡ [])
+others_planned : (name video : List ℕ) (audio : Bool) (sound : List ℕ) (mpeg other : Option ℕ) → is_utf8 name ≡ true → (audio ≡ false → sound ≡ [])
     → length (old_bytes name video (old.audios_of audio sound)) ≤ 0x40000000
     → (from_old (old_bytes name video (old.audios_of audio sound)) mpeg other ≡ planned_of name video sound (packing_of audio mpeg other))
     × (new_bytes (old.parts_of (old_bytes name video (old.audios_of audio sound))) mpeg other ≡ film_bytes name video sound (packing_of audio mpeg other))
@@ -155,9 +154,9 @@ MovedIsWritten film mpeg other out out' size w =
     let is = film_is film mpeg other size so.0 in
     let silent = film_silent film mpeg other size so.0 in
     let planned = (moved_so film mpeg other size so.0).2 in
-    let answer : Size size ≡ written_in (length out) (new_plan P mpeg other) = sym (ap (written_in (length out)) planned ∙ rw (le-ltb (length out) size so.1)) in (
+    let answer : Ok size ≡ written_in (length out) (new_plan P mpeg other) = sym (ap (written_in (length out)) planned ∙ rw (le-ltb (length out) size so.1)) in (
       record { name = P.name; video = P.read.video; audio = P.audio; sound = P.read.audio; utf8 = is.0; silent = silent; whole = is.1 },
-      subst (λ (l : List ℕ). WritingOf P.name P.read.video l (packing_of P.audio mpeg other) out (Size size) out') (spoken P.audio P.read.audio silent) (answer, w.1),
+      subst (λ (l : List ℕ). WritingOf P.name P.read.video l (packing_of P.audio mpeg other) out (Ok size) out') (spoken P.audio P.read.audio silent) (answer, w.1),
     )
 
 pub MovedIsRead : promised.MovedIsRead
@@ -169,8 +168,8 @@ MovedIsRead name video sound packing out out' size reading seen heard seen' hear
     let film = old_bytes name seen_stored (old.audios_of packing.audio heard-stored) in
     let so = planned_so (length out) (from_old film packing.mpeg_codec packing.audio_codec) size (sym w.0) in
     let within = (moved_so film packing.mpeg_codec packing.audio_codec size so.0).0 in
-    let stored = OthersAreWritten name seen_stored packing.audio heard-stored packing.mpeg_codec packing.audio_codec out out' (Size size) utf8 quiet within w in
-    let written = (KeyedIsStored name video sound packing out out' (Size size)).1 stored in
+    let stored = OthersAreWritten name seen_stored packing.audio heard-stored packing.mpeg_codec packing.audio_codec out out' (Ok size) utf8 quiet within w in
+    let written = (KeyedIsStored name video sound packing out out' (Ok size)).1 stored in
     let all : sound ≡ audio_in packing sound = spoken packing.audio sound silent in
     subst (λ (l : List ℕ). GivesBack name video l packing (take size out') seen heard r seen' heard') (sym all)
     (ReadingBack name video sound packing out out' size reading seen heard seen' heard' r mpeg other written chosen v (subst (λ (l : List ℕ). length l ≤ length heard) all a) x)
@@ -188,7 +187,7 @@ WrittenGoesBack name video audio packing out out' size back back' r utf8 mpeg ot
     let seen_stored = stored_in packing Video video in
     let heard-stored = stored_in packing Audio audio in
     let none = without_key packing in
-    let stored = (KeyedIsStored name video audio packing out out' (Size size)).0 w in
+    let stored = (KeyedIsStored name video audio packing out out' (Ok size)).0 w in
     let heard = audio_in none heard-stored in
     let bytes = film_bytes name seen_stored heard none in
     let so = planned_so (length out) (planned_of name seen_stored heard none) size (sym stored.0) in
@@ -199,22 +198,22 @@ WrittenGoesBack name video audio packing out out' size back back' r utf8 mpeg ot
     let film = old_bytes name seen_stored (old.audios_of packing.audio heard-stored) in
     let gives : old_of (new.parts_of bytes) ≡ film =
     rw (found.1.0, found.1.1, found.1.3, found.1.4) (ap (old_bytes name seen_stored) (audios_stored packing.audio heard-stored)) in
-    let planned : to_old bytes ≡ Size (length film) = rw (le-ltb 0x40000000 (length bytes) taken-up.within, found.0) (ap (λ (l : List ℕ). Size (length l)) gives) in (
+    let planned : to_old bytes ≡ Ok (length film) = rw (le-ltb 0x40000000 (length bytes) taken-up.within, found.0) (ap (λ (l : List ℕ). Ok (length l)) gives) in (
       b.0 ∙ ap (λ (l : List ℕ). written_in (length back) (to_old l)) written ∙ ap (written_in (length back)) planned,
       b.1 ∙ ap (λ (l : List ℕ). left_by r back (old_of (new.parts_of l))) written ∙ ap (left_by r back) gives,
     )
 
-moved_back : (c : List ℕ) → Moved c → to_old c ≡ Size (length (old_of (new.parts_of c)))
+moved_back : (c : List ℕ) → Moved c → to_old c ≡ Ok (length (old_of (new.parts_of c)))
 moved_back c (film, (mpeg, (other, h))) =
     let bytes = new_bytes (old.parts_of film) mpeg other in
     let r = written_in (length c) (from_old film mpeg other) in
     let g : Gives c c r (left_by r c bytes) = h c (left_by r c bytes) r (omega arith) (refl, refl) in
     let so = planned_so (length c) (from_old film mpeg other) (length c) g.0 in
-    let put : sets c 0 bytes ≡ sets c 0 c = ap (λ (t : Written). left_by t c bytes) (sym g.0) ∙ g.1 in
+    let put : sets c 0 bytes ≡ sets c 0 c = ap (λ (t : Result ℕ Refusal). left_by t c bytes) (sym g.0) ∙ g.1 in
     let same : bytes ≡ c =
     sym (taken c bytes (length c) (moved_taken film mpeg other (length c) so.0).sized (omega arith)) ∙ ap (take (length c)) put ∙ taken c c (length c) refl (omega arith) in
-    subst (λ (l : List ℕ). to_old l ≡ Size (length (old_of (new.parts_of l)))) same
-    (back_planned film mpeg other (length c) so.0 ∙ ap (λ (l : List ℕ). Size (length l)) (sym (back_is film mpeg other (length c) so.0)))
+    subst (λ (l : List ℕ). to_old l ≡ Ok (length (old_of (new.parts_of l)))) same
+    (back_planned film mpeg other (length c) so.0 ∙ ap (λ (l : List ℕ). Ok (length l)) (sym (back_is film mpeg other (length c) so.0)))
 
 not_moved : (c : List ℕ) → length c ≤ 0x40000000 → (t : Bool) → new.is_new c ≡ t → (Moved c → ⊥) → to_old c ≡ refused_by Foreign
 unfolding to_old

@@ -1,4 +1,5 @@
 -- The builder's film is no longer than request 1's, block by block and chunk by chunk. Assumes nothing.
+use Rattle.std.specs.Prelude.{Option, Some, None}
 use Prim.Native.Nat.{ℕ, ◌+◌, ◌*◌, ◌%◌, ◌≤◌}
 use mathlib.Core.Path.{◌≡◌}
 use mathlib.Core.List.{List, []}
@@ -6,8 +7,6 @@ use mathlib.Core.Bool.{Bool, true, false, cond}
 use native.Mathlib.Omega.{arith}
 use lib.ListN.{length}
 use lib.Dec.{eqb}
-use Rattle.codec.specs.declared.Codec.{Codec}
-use Rattle.codec.specs.declared.Codec.TheVariants.{Value, Absent}
 use Rattle.word.specs.Bytes.{padding}
 use Rattle.write_plan.specs.declared.Packing.{Packing}
 use Rattle.write_plan.specs.Films.{film_bytes}
@@ -34,9 +33,9 @@ stream_short : (n : ℕ) → stream_size Old n ≤ plan.stream_size n
 unfolding stream_size plan.stream_size
 stream_short n = let h = chunk_short (n % 0x10000) in omega (arith, h)
 
-codec_some : (codec : Codec) → 0x40 ≤ codec_size codec
-codec_some (Value n) = omega arith
-codec_some Absent = omega arith
+codec_some : (codec : Option ℕ) → 0x40 ≤ codec_size codec
+codec_some (Some n) = omega arith
+codec_some None = omega arith
 
 frame_short : (packing : Packing) → 32 + (0x80 + (length (audio_blocks 0 (audios_of packing.audio [])) + length (old_ends (audios_of packing.audio [])))) ≤ frame_size packing
 frame_short packing = by packing.audio where

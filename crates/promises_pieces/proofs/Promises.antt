@@ -1,5 +1,6 @@
 -- The promises of specs/Promises.antt under their names: the film is the one that was learnt. Assumes nothing.
-use Prim.Native.Nat.{ℕ, ◌+◌, ◌≤◌}
+use Rattle.std.specs.Prelude.{Some, Ok, Err}
+use Prim.Native.Nat.{ℕ}
 use mathlib.Core.Path.{◌≡◌, refl, sym, ap, ◌∙◌}
 use mathlib.Core.Bool.{Bool, true, false, cond}
 use mathlib.Core.List.{List}
@@ -11,8 +12,6 @@ use Rattle.reading.specs.declared.Reading.{Reading}
 use Rattle.reading.specs.declared.AudioChoice.TheVariants.{Chosen}
 use Rattle.reading.specs.Choices.{as_original, applied_to}
 use Rattle.header.specs.declared.Header.{Header}
-use Rattle.header.specs.declared.HeaderAnswer.{HeaderAnswer}
-use Rattle.header.specs.declared.HeaderAnswer.TheVariants.{Read, Refused}
 use Rattle.header.specs.Headers.{header_of}
 use Rattle.chunk.specs.declared.Chunk.{Chunk}
 use Rattle.walk.specs.Walks.{clean}
@@ -20,12 +19,9 @@ use Rattle.film.specs.Films.{film, film_of}
 use Rattle.key_shown.specs.KeyBits.{shown_bits}
 use Rattle.film_apart.specs.FilmsApart.{film_apart}
 use Rattle.index.specs.Indexing.{silent}
-use Rattle.profile.specs.declared.Profiled.TheVariants as profiled
 use Rattle.profile.specs.Streams.{first_of}
 use Rattle.profile.specs.Profiles.{plain, heard, profile_of}
 use Rattle.profile.proofs.StepLaws.{gathered_is_judged}
-use Rattle.pieces.specs.declared.Opened.{Opened}
-use Rattle.pieces.specs.declared.Opened.TheVariants.{Known}
 use Rattle.pieces.specs.Pieces.{too_long, settled_as, header_in}
 use Rattle.pieces.proofs.Promises.{FilmByPieces}
 use Rattle.pieces_bits.specs.PayloadBits.{most_bits}
@@ -47,7 +43,7 @@ module _ (container : List ℕ) (how : Reading) (header : Header) (chunks : List
   its_length = by_test (ltb 0x40000000 (length container)) refl read.opened
     where
       by_test : (b : Bool) → ltb 0x40000000 (length container) ≡ b
-          → cond b (Known (Refused too_long)) (settled_as (take read.beginning container) (length container) how.tables (header_of (take read.beginning container) how)) ≡ Known (Read header)
+          → cond b (Some (Err too_long)) (settled_as (take read.beginning container) (length container) how.tables (header_of (take read.beginning container) how)) ≡ Some (Ok header)
           → b ≡ false
       by_test true t e = let z : ◌≡◌ {A = ℕ} 0 1 = cc in absurd (omega arith)
       by_test false t e = refl
@@ -73,4 +69,4 @@ unfolding profile_of
 ProfileByPieces container header chunks read =
     let few = ltb-false 0x40000000 (length container) (its_length container heard header chunks read) in
     let shown = all_show container (applied_to header.audio heard) few read.window read.size read.windows header.start chunks clean read.learnt in
-    rw (its_film container heard header chunks read) (ap profiled.Judged (gathered_is_judged container read.window chunks plain (first_of header.audio) shown))
+    rw (its_film container heard header chunks read) (ap Ok (gathered_is_judged container read.window chunks plain (first_of header.audio) shown))

@@ -1,10 +1,9 @@
 -- What is gathered over the chunks of a film that is read piece by piece is the answer on the whole film. Each is proved under the same name in proofs/Promises.antt.
-use Rattle.std.specs.Prelude.{ℕ, ◌+◌, ◌≡◌, ◌↔◌, List, length, take}
+use Rattle.std.specs.Prelude.{ℕ, ◌+◌, ◌≡◌, ◌↔◌, List, length, take, Some, Ok}
 use Rattle.reading.specs.declared.Reading.{Reading}
 use Rattle.reading.specs.declared.AudioChoice.TheVariants.{Chosen}
 use Rattle.reading.specs.Choices.{as_original, applied_to}
 use Rattle.header.specs.declared.Header.{Header}
-use Rattle.header.specs.declared.HeaderAnswer.TheVariants.{Read}
 use Rattle.chunk.specs.declared.Chunk.{Chunk}
 use Rattle.walk.specs.Walks.{clean, video_size, audio_size}
 use Rattle.film.specs.Films.{film_of}
@@ -12,12 +11,10 @@ use Rattle.list.specs.declared.ListReply.{ListReply}
 use Rattle.list.specs.Listing.{counted_in, list_reply}
 use Rattle.index.specs.Entries.{entries_of}
 use Rattle.index.specs.Indexing.{silent, entered_by, Indexing}
-use Rattle.profile.specs.declared.Profiled.TheVariants as profiled
 use Rattle.profile.specs.Profiles.{heard, profile_of}
 use Rattle.profile.specs.Steps.{begun, ended, gathered}
 use Rattle.statement.specs.Statements.{Stated, StatedBy}
 use Rattle.film_apart.specs.FilmsApart.{chunks_apart, film_apart}
-use Rattle.pieces.specs.declared.Opened.TheVariants.{Known}
 use Rattle.pieces.specs.Pieces.{header_in, Learnt, Windows}
 use Rattle.pieces_bits.specs.PayloadBits.{most_bits}
 
@@ -27,7 +24,7 @@ pub record ReadByPieces (container : List ℕ) (how : Reading) (header : Header)
   pub window : ℕ → List ℕ
   pub size : ℕ → ℕ
   pub windows : Windows container window size
-  pub opened : header_in (take beginning container) (length container) how ≡ Known (Read header)
+  pub opened : header_in (take beginning container) (length container) how ≡ Some (Ok header)
   pub learnt : Learnt window (length container) (applied_to header.audio how) header.start chunks clean
 
 -- `usm_statement_by`, asked with the largest number that `usm_payload_bits` says of a payload and with the sizes of both streams, answers as `usm_statement` does on
@@ -43,7 +40,7 @@ abbrev pub PartingByPieces : Type 0
 PartingByPieces =
     (container : List ℕ) (how : Reading) (header : Header) (chunks : List Chunk) (key key' : ℕ)
     → ReadByPieces container how header chunks
-    → chunks_apart header.audio_codec key key' chunks ≡ film_apart key key' (film_of container how)
+    → Ok (chunks_apart header.audio_codec key key' chunks) ≡ film_apart key key' (film_of container how)
 
 -- The entries of the video chunks, each with the lengths of those before it as its place, are the index that `usm_index` builds of the whole film.
 abbrev pub IndexByPieces : Type 0
@@ -56,4 +53,4 @@ IndexByPieces =
 abbrev pub ProfileByPieces : Type 0
 ProfileByPieces =
     (container : List ℕ) (header : Header) (chunks : List Chunk) (read : ReadByPieces container heard header chunks)
-    → profiled.Judged (ended (length container) (gathered read.window chunks (begun header.audio))) ≡ profile_of container
+    → Ok (ended (length container) (gathered read.window chunks (begun header.audio))) ≡ profile_of container

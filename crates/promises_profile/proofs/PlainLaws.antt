@@ -1,11 +1,12 @@
 -- The chunks of a written film break no rule: each has header size 0x18 and a size that is a multiple of 0x20, payloads stand before the ends, and there is one
 -- end for each stream. Assumes nothing.
-use Prim.Native.Nat.{ℕ, ◌+◌, ◌≤◌, ◌<◌, ◌^◌}
-use mathlib.Core.Path.{◌≡◌, refl, sym, ap, ◌∙◌}
+use Prim.Native.Nat.{ℕ, ◌+◌, ◌%◌, ◌≤◌, ◌<◌, ◌^◌}
+use mathlib.Core.Path.{◌≡◌, refl, ap, ◌∙◌}
 use mathlib.Core.List.{List, [], ◌∷◌, ◌++◌, map, append_assoc}
 use mathlib.Core.Bool.{Bool, true, false}
 use native.Mathlib.Omega.{arith}
 use lib.ListN.{length, length-append}
+use borrow.Author.Tests.{eq-eqb}
 use Rattle.word.specs.Numbers.{be16, be32}
 use Rattle.signature.specs.Signatures.{contents_end}
 use Rattle.reading.specs.declared.Applied.{Applied}
@@ -24,11 +25,10 @@ use Rattle.promises_write.specs.Listing.{Line, kind_for, end_line, end_lines, ch
 use Rattle.promises_write.proofs.FromLaws.{From, from_next, from_as, be16_is}
 use Rattle.promises_write.proofs.BlockReadLaws.{block, letters_is, size_is, header_read}
 use Rattle.promises_write.proofs.WalkBackLaws.{Item, line_of, block_for, AllGood, none, one}
-use Rattle.profile.specs.declared.Stream.TheVariants as stands
+use Rattle.profile.specs.declared.Stream.{Stream}
 use Rattle.profile.specs.declared.Streams.{Streams}
 use Rattle.profile.specs.Streams.{is_closed, is_known, stream_of, first_of, after_end, after_kind}
-use Rattle.profile.specs.Profiles.{plain, letters_at, judged_at, judged}
-use Rattle.profile.proofs.RuleLaws.{none_broken}
+use Rattle.profile.specs.Profiles.{plain, broken_by, letters_at, judged_at, judged}
 
 letters_fit : (stream : made.Stream) → letters_of stream < 2 ^ 32
 letters_fit Video = omega arith
@@ -37,6 +37,12 @@ letters_fit Audio = omega arith
 letters_known : (stream : made.Stream) → is_known (letters_of stream) ≡ true
 letters_known Video = refl
 letters_known Audio = refl
+
+-- a chunk that passes the four tests breaks no rule
+none_broken : (s : List ℕ) (p letters : ℕ) (stream : Stream) → be16 s (p + 8) ≡ 0x18 → (be32 s (p + 4) + 8) % 0x20 ≡ 0 → is_closed stream ≡ false → is_known letters ≡ true
+    → broken_by s p letters stream ≡ plain
+unfolding broken_by
+none_broken s p letters stream header size unclosed known = rw (eq-eqb (be16 s (p + 8)) 0x18 header, eq-eqb ((be32 s (p + 4) + 8) % 0x20) 0 size, unclosed, known)
 
 -- a block of a stream that is not closed breaks no rule
 module _ (stream : made.Stream) (inside more : List ℕ) {s : List ℕ} {p : ℕ} (f : From s p (block (letters_of stream) inside more)) (k : length inside ≤ 0x10000) where
@@ -47,8 +53,7 @@ module _ (stream : made.Stream) (inside more : List ℕ) {s : List ℕ} {p : ℕ
   block_plain streams line unclosed =
       let size = size_is (letters_of stream) inside more f (letters_fit stream) (omega arith) in
       let header : be16 s (p + 8) ≡ 0x18 = be16_is f (p + 8) 8 refl ∙ header_read (letters_of stream) inside more in
-      rw its_letters
-      (sym (none_broken s p (letters_of stream) (stream_of streams (letters_of stream)) (be16 s (p + 8)) refl header (be32 s (p + 4)) refl (omega (arith, size)) unclosed (letters_known stream)))
+      rw its_letters (none_broken s p (letters_of stream) (stream_of streams (letters_of stream)) header (omega (arith, size)) unclosed (letters_known stream))
 
 -- a chunk that breaks no rule leaves the verdict to those after it
 one_judged : (s : List ℕ) (streams : Streams) (chunk : Chunk) (chunks : List Chunk) → judged_at s streams chunk ≡ plain

@@ -1,5 +1,6 @@
 -- The promise of specs/Promises.antt under its name: the film that the written bytes are has payloads by turns and then the ends, and none of them breaks a rule.
 -- Assumes nothing.
+use Rattle.std.specs.Prelude.{Ok}
 use mathlib.Core.Path.{refl, sym, ap, ◌∙◌}
 use lib.ListN.{length}
 use Rattle.reading.specs.Choices.{applied_to}
@@ -8,7 +9,6 @@ use Rattle.write_plan.specs.Films.{audio_in, film_bytes, bytes_of, header_blocks
 use Rattle.promises_write.proofs.StreamBackLaws.{items}
 use Rattle.promises_write.proofs.FilmBackLaws.{chunks_from_lem, good, chunks_are}
 use Rattle.promises_write.proofs.Promises.{taken, silent, written_is, film_read}
-use Rattle.profile.specs.declared.Profiled.TheVariants.{Judged}
 use Rattle.profile.specs.Streams.{first_of}
 use Rattle.profile.specs.Profiles.{judged, heard, profile_of}
 use Rattle.promises_profile.specs.Promises as promised
@@ -29,4 +29,4 @@ WrittenIsPlain name video audio packing out out' size mpeg other w =
     let verdict = film_plain by container applied packing.audio (items video spoken) all start from in
     let chunks = chunks_are name video spoken packing size accepted mpeg other quiet heard refl in
     rw (written_is name video audio packing out out' size mpeg other w heard refl, film_read name video audio packing out out' size mpeg other w heard refl)
-    (ap Judged (ap (judged container (first_of packing.audio)) (sym chunks) ∙ verdict))
+    (ap Ok (ap (judged container (first_of packing.audio)) (sym chunks) ∙ verdict))

@@ -1,4 +1,9 @@
 -- Which causes the header walk can be refused for: block by block, and step by step from the last to the first. Assumes nothing.
+use Rattle.std.specs.Prelude.{Option, None, Result, Ok, Err}
+use Rattle.header.specs.declared.Header.{Header}
+use Rattle.cell.specs.declared.Cell.{Cell}
+use Rattle.refusal.specs.declared.Refusal.{Refusal}
+use Rattle.layout.specs.declared.Layout.{Layout}
 use Prim.Native.Nat.{ℕ, ◌+◌, ◌-◌}
 use mathlib.Core.Path.{◌≡◌, refl}
 use mathlib.Core.Bool.{Bool, true, false, not, cond, false≢true}
@@ -10,26 +15,14 @@ use Rattle.refusal.specs.declared.Cause.{Cause}
 use Rattle.refusal.specs.declared.Cause.TheVariants.{RanOut, NoFilm, NoTable, NoVideo, NoAudio, NoHeaderEnd, NoMetadataEnd, UnknownType, TooSmall, TooMany, TooLong, ShortOutput, ShortList, MarkedPayload, ShortRoom, ShortHeader, UnknownStorage, Foreign, ManyAudios, NoBeginning, BadTenants, CodecAlone}
 use Rattle.reading.specs.declared.Reading.{Reading}
 use Rattle.signature.specs.Signatures.{CRID, SFV, SFA, header_end, metadata_end, filename, mpeg_codec, audio_codec, stands_at}
-use Rattle.codec.specs.declared.Codec.{Codec}
-use Rattle.codec.specs.declared.Codec.TheVariants.{Absent}
 use Rattle.film_name.specs.declared.Name.{Name}
-use Rattle.table.specs.declared.TableAnswer.{TableAnswer}
-use Rattle.table.specs.declared.TableAnswer.TheVariants as table
 use Rattle.table.specs.Tables.{table_at}
-use Rattle.lookup.specs.declared.Lookup.{Lookup}
-use Rattle.lookup.specs.declared.Lookup.TheVariants as lookup
 use Rattle.lookup.specs.Lookups.{cell_of, last_cell_of, last_row}
 use Rattle.block.specs.declared.Ahead.{Ahead}
 use Rattle.block.specs.declared.Ahead.TheVariants.{Sound, Other, Cut}
-use Rattle.block.specs.declared.BlockAnswer.{BlockAnswer}
-use Rattle.block.specs.declared.BlockAnswer.TheVariants.{Next, NoBlock}
 use Rattle.block.specs.declared.CodecBlock.{CodecBlock}
-use Rattle.block.specs.declared.CodecBlock.TheVariants.{Coded, NoCodec}
 use Rattle.block.specs.declared.NameBlock.{NameBlock}
-use Rattle.block.specs.declared.NameBlock.TheVariants.{Named, NoName}
 use Rattle.block.specs.Blocks.{refused_at, head_at, marked_at, tabled, coded, named, and_then, then_codec, then_name, marker_block, table_block, codec_block, name_block, ahead_at, chunks_after, last_block}
-use Rattle.header.specs.declared.HeaderAnswer.{HeaderAnswer}
-use Rattle.header.specs.declared.HeaderAnswer.TheVariants.{Read, Refused}
 use Rattle.header.specs.Headers.{refused, by_ahead, step7_audio, step7_video, step7_table, step7, step6, step5, step4, finish, after_codec, after_name, step3_audio, step3, step2, step1, header_of}
 use Rattle.table.specs.Promises.{is_of_atable}
 use Rattle.table.proofs.RefusalLaws.{FairTable, either, table_fair}
@@ -39,21 +32,21 @@ use Rattle.promises_refusals.specs.Promises.{is_of_afilm}
 abbrev pub Fair : Cause → Type 0
 Fair why = is_of_afilm why ≡ true
 
-abbrev FairBlock : BlockAnswer → Type 0
-FairBlock (Next next) = Unit
-FairBlock (NoBlock refusal) = Fair refusal.cause
+abbrev FairBlock : Result ℕ Refusal → Type 0
+FairBlock (Ok next) = Unit
+FairBlock (Err refusal) = Fair refusal.cause
 
-abbrev FairCodec : CodecBlock → Type 0
-FairCodec (Coded codec next) = Unit
-FairCodec (NoCodec refusal) = Fair refusal.cause
+abbrev FairCodec : Result CodecBlock Refusal → Type 0
+FairCodec (Ok block) = Unit
+FairCodec (Err refusal) = Fair refusal.cause
 
-abbrev FairName : NameBlock → Type 0
-FairName (Named name next) = Unit
-FairName (NoName refusal) = Fair refusal.cause
+abbrev FairName : Result NameBlock Refusal → Type 0
+FairName (Ok block) = Unit
+FairName (Err refusal) = Fair refusal.cause
 
-abbrev pub FairHeader : HeaderAnswer → Type 0
-FairHeader (Read header) = Unit
-FairHeader (Refused refusal) = Fair refusal.cause
+abbrev pub FairHeader : Result Header Refusal → Type 0
+FairHeader (Ok header) = Unit
+FairHeader (Err refusal) = Fair refusal.cause
 
 -- what a table is refused for, a film is
 of_a_table : (why : Cause) → is_of_atable why ≡ true → Fair why
@@ -94,29 +87,29 @@ module _ (s : List ℕ) where
   marked_fair marker unmarked p next h =
       either FairBlock (ltb (length s - p) (0x20 + length marker)) _ _ refl (either FairBlock (not (stands_at marker s (p + 0x20))) _ _ h tt)
 
-  tabled_fair : (p next place : ℕ) (x : TableAnswer) → FairTable place x → FairBlock (tabled p next x)
-  tabled_fair p next place (table.Table l) h = tt
-  tabled_fair p next place (table.NoTable refusal) h = of_a_table refusal.cause h.0
+  tabled_fair : (p next place : ℕ) (x : Result Layout Refusal) → FairTable place x → FairBlock (tabled p next x)
+  tabled_fair p next place (Ok l) h = tt
+  tabled_fair p next place (Err refusal) h = of_a_table refusal.cause h.0
 
-  coded_fair : (p next : ℕ) (x : Lookup) → FairLookup x → FairCodec (coded p next x)
-  coded_fair p next (lookup.Holds cell) h = tt
-  coded_fair p next (lookup.NoTable refusal) h = of_a_table refusal.cause h
+  coded_fair : (p next : ℕ) (x : Result Cell Refusal) → FairLookup x → FairCodec (coded p next x)
+  coded_fair p next (Ok cell) h = tt
+  coded_fair p next (Err refusal) h = of_a_table refusal.cause h
 
-  named_fair : (p next : ℕ) (x : Lookup) → FairLookup x → FairName (named p next x)
-  named_fair p next (lookup.Holds cell) h = tt
-  named_fair p next (lookup.NoTable refusal) h = of_a_table refusal.cause h
+  named_fair : (p next : ℕ) (x : Result Cell Refusal) → FairLookup x → FairName (named p next x)
+  named_fair p next (Ok cell) h = tt
+  named_fair p next (Err refusal) h = of_a_table refusal.cause h
 
-  then_fair : (k : ℕ → BlockAnswer) → ((next : ℕ) → FairBlock (k next)) → (x : BlockAnswer) → FairBlock x → FairBlock (and_then k x)
-  then_fair k rest (Next next) h = rest next
-  then_fair k rest (NoBlock refusal) h = h
+  then_fair : (k : ℕ → Result ℕ Refusal) → ((next : ℕ) → FairBlock (k next)) → (x : Result ℕ Refusal) → FairBlock x → FairBlock (and_then k x)
+  then_fair k rest (Ok next) h = rest next
+  then_fair k rest (Err refusal) h = h
 
-  then_codec_lem : (k : ℕ → CodecBlock) → ((next : ℕ) → FairCodec (k next)) → (x : BlockAnswer) → FairBlock x → FairCodec (then_codec k x)
-  then_codec_lem k rest (Next next) h = rest next
-  then_codec_lem k rest (NoBlock refusal) h = h
+  then_codec_lem : (k : ℕ → Result CodecBlock Refusal) → ((next : ℕ) → FairCodec (k next)) → (x : Result ℕ Refusal) → FairBlock x → FairCodec (then_codec k x)
+  then_codec_lem k rest (Ok next) h = rest next
+  then_codec_lem k rest (Err refusal) h = h
 
-  then_name_lem : (k : ℕ → NameBlock) → ((next : ℕ) → FairName (k next)) → (x : BlockAnswer) → FairBlock x → FairName (then_name k x)
-  then_name_lem k rest (Next next) h = rest next
-  then_name_lem k rest (NoBlock refusal) h = h
+  then_name_lem : (k : ℕ → Result NameBlock Refusal) → ((next : ℕ) → FairName (k next)) → (x : Result ℕ Refusal) → FairBlock x → FairName (then_name k x)
+  then_name_lem k rest (Ok next) h = rest next
+  then_name_lem k rest (Err refusal) h = h
 
   marker_fair : (letters : ℕ) (missing : Cause) (marker : List ℕ) (unmarked : Cause) (p : ℕ) → Fair missing → Fair unmarked → FairBlock (marker_block s letters missing marker unmarked p)
   unfolding marker_block
@@ -189,31 +182,31 @@ module _ (s : List ℕ) where
     step4_fair audio p =
         then_fair (step5 s how audio) (step5_fair audio) (marker_block s SFV NoVideo header_end NoHeaderEnd p) (marker_fair SFV NoVideo header_end NoHeaderEnd p refl refl)
 
-    finish_fair : (name : Name) (video : Codec) (audio : Bool) (sound : Codec) (x : BlockAnswer) → FairBlock x → FairHeader (finish name video audio sound x)
-    finish_fair name video audio sound (Next start) h = tt
-    finish_fair name video audio sound (NoBlock refusal) h = h
+    finish_fair : (name : Option Name) (video : Option ℕ) (audio : Bool) (sound : Option ℕ) (x : Result ℕ Refusal) → FairBlock x → FairHeader (finish name video audio sound x)
+    finish_fair name video audio sound (Ok start) h = tt
+    finish_fair name video audio sound (Err refusal) h = h
 
-    after_codec_lem : (k : Codec → ℕ → HeaderAnswer) → ((codec : Codec) (next : ℕ) → FairHeader (k codec next)) → (x : CodecBlock) → FairCodec x → FairHeader (after_codec k x)
-    after_codec_lem k rest (Coded codec next) h = rest codec next
-    after_codec_lem k rest (NoCodec refusal) h = h
+    after_codec_lem : (k : Option ℕ → ℕ → Result Header Refusal) → ((codec : Option ℕ) (next : ℕ) → FairHeader (k codec next)) → (x : Result CodecBlock Refusal) → FairCodec x → FairHeader (after_codec k x)
+    after_codec_lem k rest (Ok block) h = rest block.codec block.next
+    after_codec_lem k rest (Err refusal) h = h
 
-    after_name_lem : (k : Name → ℕ → HeaderAnswer) → ((name : Name) (next : ℕ) → FairHeader (k name next)) → (x : NameBlock) → FairName x → FairHeader (after_name k x)
-    after_name_lem k rest (Named name next) h = rest name next
-    after_name_lem k rest (NoName refusal) h = h
+    after_name_lem : (k : Option Name → ℕ → Result Header Refusal) → ((name : Option Name) (next : ℕ) → FairHeader (k name next)) → (x : Result NameBlock Refusal) → FairName x → FairHeader (after_name k x)
+    after_name_lem k rest (Ok block) h = rest block.name block.next
+    after_name_lem k rest (Err refusal) h = h
 
-    step3_audio_lem : (name : Name) (video : Codec) (p : ℕ) → FairHeader (step3_audio s how name video p)
+    step3_audio_lem : (name : Option Name) (video : Option ℕ) (p : ℕ) → FairHeader (step3_audio s how name video p)
     unfolding step3_audio
     step3_audio_lem name video p =
         after_codec_lem (λ sound next. finish name video true sound (step4 s how true next)) (λ sound next. finish_fair name video true sound (step4 s how true next) (step4_fair true next))
         (codec_block s how SFA NoAudio audio_codec p) (codec_fair SFA NoAudio audio_codec p refl)
 
-    step3_fair : (name : Name) (video : Codec) (p : ℕ) → FairHeader (step3 s how name video p)
+    step3_fair : (name : Option Name) (video : Option ℕ) (p : ℕ) → FairHeader (step3 s how name video p)
     unfolding step3
     step3_fair name video p =
-        ahead_fair FairHeader (step3_audio s how name video p) (finish name video false Absent (step4 s how false p)) (refused p RanOut)
-        (step3_audio_lem name video p) (finish_fair name video false Absent (step4 s how false p) (step4_fair false p)) refl (ahead_at s p)
+        ahead_fair FairHeader (step3_audio s how name video p) (finish name video false None (step4 s how false p)) (refused p RanOut)
+        (step3_audio_lem name video p) (finish_fair name video false None (step4 s how false p) (step4_fair false p)) refl (ahead_at s p)
 
-    step2_fair : (name : Name) (p : ℕ) → FairHeader (step2 s how name p)
+    step2_fair : (name : Option Name) (p : ℕ) → FairHeader (step2 s how name p)
     unfolding step2
     step2_fair name p = after_codec_lem (step3 s how name) (step3_fair name) (codec_block s how SFV NoVideo mpeg_codec p) (codec_fair SFV NoVideo mpeg_codec p refl)
 

@@ -1,4 +1,6 @@
 -- The promises of specs/Promises.antt, each under its name: a film is refused by its header or by a chunk, and both name only causes of a film. Assumes nothing.
+use Rattle.std.specs.Prelude.{Result, Ok, Err}
+use Rattle.extract.specs.declared.Contents.{Contents}
 use Prim.Native.Nat.{ℕ, ◌+◌, ◌≤◌}
 use mathlib.Core.Path.{◌≡◌, refl, sym, ap, ◌∙◌, subst}
 use mathlib.Core.Logic.{◌⊎◌, ⊎_elim}
@@ -16,18 +18,13 @@ use Rattle.refusal.specs.Numbers.{number_of, beside_of}
 use Rattle.reading.specs.declared.PayloadMode.TheVariants.{AfterHeader}
 use Rattle.reading.specs.declared.Reading.{Reading}
 use Rattle.reading.specs.Choices.{applied_to}
-use Rattle.chunk.specs.declared.ChunkStep.TheVariants as step
 use Rattle.chunk.specs.Chunks.{chunk_at}
 use Rattle.chunk.proofs.Promises.{RefusedByThree}
 use Rattle.walk.specs.Walks.{video_size, audio_size}
 use Rattle.header.specs.declared.Header.{Header}
-use Rattle.header.specs.declared.HeaderAnswer.{HeaderAnswer}
-use Rattle.header.specs.declared.HeaderAnswer.TheVariants as answer
 use Rattle.header.specs.Headers.{header_of}
 use Rattle.film.specs.Films.{Film, film, refused, film_of, survey_of}
 use Rattle.film.proofs.Promises.{RefusedByHeaderOrChunk}
-use Rattle.extract.specs.declared.Extracted.{Extracted}
-use Rattle.extract.specs.declared.Extracted.TheVariants as extracted
 use Rattle.extract.specs.Extraction.{contents_of, refused_by, extracted_in}
 use Rattle.extract.proofs.Promises.{SizesFitTheContainer}
 use Rattle.list.specs.declared.ListReply.{ListReply}
@@ -44,8 +41,8 @@ use Rattle.promises_refusals.proofs.HeaderLaws.{FairHeader, header_fair}
 pub FilmsRefuseByThese : promised.FilmsRefuseByThese
 FilmsRefuseByThese container reading refusal e =
     ⊎_elim
-    (λ (h : header_of container reading ≡ answer.Refused refusal). subst FairHeader h (header_fair container reading))
-    (λ (c : (header : Header) × ((header_of container reading ≡ answer.Read header) × (chunk_at container (applied_to header.audio reading) refusal.place ≡ step.Refused refusal))).
+    (λ (h : header_of container reading ≡ Err refusal). subst FairHeader h (header_fair container reading))
+    (λ (c : (header : Header) × ((header_of container reading ≡ Ok header) × (chunk_at container (applied_to header.audio reading) refusal.place ≡ Err refusal))).
     let by = (RefusedByThree container (applied_to c.0.audio reading) refusal.place refusal c.1.1).1 in
     ⊎_elim (λ (q : refusal.cause ≡ RanOut). ap is_of_afilm q)
     (λ (s : (refusal.cause ≡ TooSmall) ⊎ ((refusal.cause ≡ ShortHeader) × (reading.payloads ≡ AfterHeader))).
@@ -81,9 +78,9 @@ no_size CodecAlone e = absurd (false≢true e)
 -- ---- the sizes that are told
 
 pub SizesToldFit : promised.SizesToldFit
-SizesToldFit container reading key video audio video_after audio_after r e = subst (λ (x : Extracted). sizes_told x ≤ length container) (sym e.0) (by_film (film_of container reading) refl)
+SizesToldFit container reading key video audio video_after audio_after r e = subst (λ (x : Result Contents Refusal). sizes_told x ≤ length container) (sym e.0) (by_film (film_of container reading) refl)
   where
-    told : (t : Bool) (header : Header) (seen heard : ℕ) → sizes_told (cond t (refused_by (ShortOutput seen heard)) (extracted.Film (contents_of header seen heard))) ≡ seen + heard
+    told : (t : Bool) (header : Header) (seen heard : ℕ) → sizes_told (cond t (refused_by (ShortOutput seen heard)) (Ok (contents_of header seen heard))) ≡ seen + heard
     told true header seen heard = refl
     told false header seen heard = refl
 

@@ -1,16 +1,13 @@
 -- Which refusals a film can have, and what follows for those who ask about it. Each is proved under the same name in proofs/Promises.antt.
-use Rattle.std.specs.Prelude.{ℕ, ◌+◌, ◌≤◌, ◌<◌, ◌≡◌, ◌↔◌, Bool, true, false, List, length}
+use Rattle.std.specs.Prelude.{ℕ, ◌+◌, ◌≤◌, ◌<◌, ◌≡◌, ◌↔◌, Bool, true, false, List, length, Option, Result, Ok, Err}
+use Rattle.extract.specs.declared.Contents.{Contents}
 use Rattle.refusal.specs.declared.Cause.{Cause}
 use Rattle.refusal.specs.declared.Cause.TheVariants.{RanOut, NoFilm, NoTable, NoVideo, NoAudio, NoHeaderEnd, NoMetadataEnd, UnknownType, TooSmall, TooMany, TooLong, ShortOutput, ShortList, MarkedPayload, ShortRoom, ShortHeader, UnknownStorage, Foreign, ManyAudios, NoBeginning, BadTenants, CodecAlone}
 use Rattle.refusal.specs.declared.Refusal.{Refusal}
 use Rattle.refusal.specs.Numbers.{beside_of}
 use Rattle.reading.specs.declared.Reading.{Reading}
-use Rattle.unmasking.specs.declared.Key.{Key}
-use Rattle.header.specs.declared.HeaderAnswer.TheVariants as answer
 use Rattle.header.specs.Headers.{header_of}
 use Rattle.film.specs.Films.{refused, film_of}
-use Rattle.extract.specs.declared.Extracted.{Extracted}
-use Rattle.extract.specs.declared.Extracted.TheVariants as extracted
 use Rattle.extract.specs.Extraction.{Extraction}
 use Rattle.list.specs.declared.ListReply.{ListReply}
 use Rattle.tenants.specs.Promises.{OneToSixteen}
@@ -46,15 +43,15 @@ abbrev pub FilmsRefuseByThese : Type 0
 FilmsRefuseByThese = (container : List ℕ) (reading : Reading) (refusal : Refusal) → film_of container reading ≡ refused refusal → is_of_afilm refusal.cause ≡ true
 
 -- both sizes that an answer tells: those of the film, or those beside 12; none beside another number
-abbrev pub sizes_told : Extracted → ℕ
-sizes_told (extracted.Film contents) = contents.video_size + contents.audio_size
-sizes_told (extracted.Refused refusal) = (beside_of refusal.cause).video_size + (beside_of refusal.cause).audio_size
+abbrev pub sizes_told : Result Contents Refusal → ℕ
+sizes_told (Ok contents) = contents.video_size + contents.audio_size
+sizes_told (Err refusal) = (beside_of refusal.cause).video_size + (beside_of refusal.cause).audio_size
 
 -- Request 10, "the sizes of the two streams together never exceed the container, in both payload modes and for every channel choice": so says every answer, also the one with 12,
 -- by whose sizes a caller makes room
 abbrev pub SizesToldFit : Type 0
 SizesToldFit =
-    (container : List ℕ) (reading : Reading) (key : Key) (video audio video_after audio_after : List ℕ) (r : Extracted)
+    (container : List ℕ) (reading : Reading) (key : Option ℕ) (video audio video_after audio_after : List ℕ) (r : Result Contents Refusal)
     → Extraction container reading key video audio r video_after audio_after → sizes_told r ≤ length container
 
 -- "22 no tenant, over 16, or a number twice": of a container within the limit a statement is refused by 22 exactly when there are not 1 to 16 tenants with different numbers.

@@ -1,4 +1,5 @@
 -- Entries that follow one another without a gap, from a place of the stream to another: a jump by them finds the entry that holds the byte. Assumes nothing.
+use Rattle.std.specs.Prelude.{Some, None}
 use Prim.Native.Nat.{ℕ, zero, suc, ◌+◌, ◌-◌, ◌≤◌, ◌<◌}
 use mathlib.Core.Path.{◌≡◌, refl, sym}
 use mathlib.Core.List.{List, [], ◌∷◌}
@@ -6,7 +7,6 @@ use mathlib.Core.Logic.{⊎_elim}
 use native.Mathlib.Omega.{arith}
 use lib.ListN.{length, get_or}
 use Rattle.laws.proofs.Side.{side}
-use Rattle.seek.specs.declared.Sought.TheVariants.{At, PastTheEnd}
 use Rattle.seek.specs.Entries.{place_at, chunk_in, length_at}
 use Rattle.seek.specs.Seeking.{begun_by, sought_in}
 use Rattle.seek.proofs.SeekLaws.{none_begun, held, not_held}
@@ -60,7 +60,7 @@ module _ (index : List (List ℕ)) (q n : ℕ) (c : Chain 0 index q) where
   last = begun_by index n - 1
 
   -- below the end, the last entry that begins at or before the byte answers, and holds it
-  pub answers : n < q → (last < length index) × (place_at index last ≤ n) × (n - place_at index last < length_at index last) × (sought_in index n ≡ At (chunk_in index last) (n - place_at index last))
+  pub answers : n < q → (last < length index) × (place_at index last ≤ n) × (n - place_at index last < length_at index last) × (sought_in index n ≡ Some (record { chunk = chunk_in index last; offset = n - place_at index last }))
   answers l =
       let parted = BegunAreTheFirst index n (rising 0 index q c) in
       let some : begun_by index n ≡ 0 → ⊥ = λ e. some_begun q n l 0 index c (omega arith) (λ j _ k. parted.2 j (omega arith) k) in
@@ -71,7 +71,7 @@ module _ (index : List (List ℕ)) (q n : ℕ) (c : Chain 0 index q) where
       (h, parted.1 last (omega arith), held-there, sym (held index n (begun_by index n) refl some held-there))
 
   -- from there on none does
-  pub past : q ≤ n → sought_in index n ≡ PastTheEnd
+  pub past : q ≤ n → sought_in index n ≡ None
   past l =
       let parted = BegunAreTheFirst index n (rising 0 index q c) in
       ⊎_elim (λ (h : begun_by index n < 1). sym (none_begun index n (begun_by index n) refl (omega arith)))

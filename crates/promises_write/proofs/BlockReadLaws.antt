@@ -1,4 +1,5 @@
 -- A block that was written, as the readers find it: letters, sizes, data type, what it holds, and where the next one stands. Assumes nothing.
+use Rattle.std.specs.Prelude.{Ok}
 use Prim.Native.Nat.{ℕ, ◌+◌, ◌-◌, ◌%◌, ◌^◌, ◌≤◌, ◌<◌}
 use mathlib.Core.Path.{◌≡◌, refl, ap, ◌∙◌}
 use mathlib.Core.List.{List, [], ◌∷◌, ◌++◌, append_assoc}
@@ -11,7 +12,6 @@ use Rattle.laws.specs.Lists.{at}
 use Rattle.word.specs.Numbers.{be16, be32}
 use Rattle.refusal.specs.declared.Cause.{Cause}
 use Rattle.signature.specs.Signatures.{SFV, SFA, metadata_end, same_bytes, stands_at}
-use Rattle.block.specs.declared.BlockAnswer.TheVariants.{Next}
 use Rattle.block.specs.declared.Ahead.TheVariants.{Sound, Other}
 use Rattle.block.specs.Blocks.{head_at, marked_at, marker_block, ahead_at, last_block, chunks_after}
 use Rattle.word.specs.Bytes.{zeros, padding}
@@ -68,11 +68,11 @@ module _ (letters : ℕ) (inside more : List ℕ) where
     pub size_is : be32 s (p + 4) ≡ 0x18 + length inside + padding (length inside)
     size_is = be32_is f (p + 4) 4 refl ∙ size_read k
 
-    pub head_is : (missing : Cause) → head_at s letters missing p ≡ Next (p + length (block_of letters inside))
+    pub head_is : (missing : Cause) → head_at s letters missing p ≡ Ok (p + length (block_of letters inside))
     unfolding head_at
     head_is missing =
         let e : p + 8 + be32 s (p + 4) ≡ p + length (block_of letters inside) = omega (arith, size_is, block_length letters inside) in
-        rw (le-ltb (length s - p) 4 (omega (arith, left_long)), eq-eqb (be32 s p) letters letters_is, le-ltb (length s - p) 8 (omega (arith, left_long))) (ap Next e)
+        rw (le-ltb (length s - p) 4 (omega (arith, left_long)), eq-eqb (be32 s p) letters letters_is, le-ltb (length s - p) 8 (omega (arith, left_long))) (ap Ok e)
 
     pub sound_ahead : letters ≡ SFA → ahead_at s p ≡ Sound
     unfolding ahead_at
@@ -107,19 +107,19 @@ module _ (letters : ℕ) (marker more : List ℕ) (m : length (marker_of marker)
       held_long : 0x40 ≤ length s - p
       held_long = omega (arith, left_is f, block_long letters (marker_of marker) more, m)
 
-      pub marked_is : (unmarked : Cause) (next : ℕ) → marked_at s marker unmarked p next ≡ Next next
+      pub marked_is : (unmarked : Cause) (next : ℕ) → marked_at s marker unmarked p next ≡ Ok next
       unfolding marked_at
       marked_is unmarked next = rw (le-ltb (length s - p) (0x20 + length marker) (omega (arith, held_long)), marker_is)
 
-      pub marker-block : (missing unmarked : Cause) → marker_block s letters missing marker unmarked p ≡ Next (p + length (block_of letters (marker_of marker)))
+      pub marker-block : (missing unmarked : Cause) → marker_block s letters missing marker unmarked p ≡ Ok (p + length (block_of letters (marker_of marker)))
       unfolding marker_block
       marker-block missing unmarked = rw (head_is letters (marker_of marker) more f h (omega (arith, m)) missing) (marked_is unmarked (p + length (block_of letters (marker_of marker))))
 
 -- the block of step H8: chunks begin where it ends
 module _ (more : List ℕ) {s : List ℕ} {p : ℕ} (f : From s p (block SFV (marker_of metadata_end) more)) where
-  pub last_block_lem : p % 0x20 ≡ 0 → last_block s p ≡ Next (p + length (block_of SFV (marker_of metadata_end)))
+  pub last_block_lem : p % 0x20 ≡ 0 → last_block s p ≡ Ok (p + length (block_of SFV (marker_of metadata_end)))
   unfolding last_block
   last_block_lem e =
       let n : chunks_after p ≡ p + length (block_of SFV (marker_of metadata_end)) = omega (arith, block_length SFV (marker_of metadata_end)) in
       rw (le-ltb (length s - p) 4 (omega (arith, held_long SFV metadata_end more refl (omega arith) f (omega arith))), eq-eqb (be32 s p) SFV (letters_is SFV (marker_of metadata_end) more f (omega arith) (omega arith)))
-      (marked_is SFV metadata_end more refl (omega arith) f (omega arith) _ (chunks_after p) ∙ ap Next n)
+      (marked_is SFV metadata_end more refl (omega arith) f (omega arith) _ (chunks_after p) ∙ ap Ok n)

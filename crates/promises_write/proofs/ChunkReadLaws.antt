@@ -1,4 +1,5 @@
 -- A chunk that was written, as the walk finds it: with its payload, or as an end. Assumes nothing.
+use Rattle.std.specs.Prelude.{Some, Ok}
 use Prim.Native.Nat.{ℕ, zero, suc, ◌+◌, ◌-◌, ◌≤◌, ◌<◌}
 use mathlib.Core.Path.{◌≡◌, refl, sym, ap, ◌∙◌}
 use mathlib.Core.List.{List, [], ◌∷◌, ◌++◌}
@@ -22,7 +23,6 @@ use Rattle.reading.specs.Choices.{takes_channel}
 use Rattle.chunk.specs.declared.Kind.{Kind}
 use Rattle.chunk.specs.declared.Kind.TheVariants as kind
 use Rattle.chunk.specs.declared.Opening.{Opening}
-use Rattle.chunk.specs.declared.ChunkStep.TheVariants.{Found}
 use Rattle.chunk.specs.Openings.{kind_at, opening_at}
 use Rattle.chunk.specs.Chunks.{offset_of, is_short, chunk_of, held_at, taken_at, opened_at, chunk_at}
 use Rattle.unmasking.specs.declared.Unmasking.{Unmasking}
@@ -176,7 +176,7 @@ as_written : (mode : PayloadMode) (kind : Kind) (n : ℕ) → (is_short mode (op
 as_written Original kind n = (refl, refl)
 as_written AfterHeader kind n = (refl, refl)
 
-taken_is : (s : List ℕ) (mode : PayloadMode) (c n : ℕ) (kind : Kind) → c + block_size n ≤ length s → taken_at (length s) mode c (opened kind n) ≡ Found (chunk_in c (record { kind = kind; len = n; size = block_size n }))
+taken_is : (s : List ℕ) (mode : PayloadMode) (c n : ℕ) (kind : Kind) → c + block_size n ≤ length s → taken_at (length s) mode c (opened kind n) ≡ Ok (Some (chunk_in c (record { kind = kind; len = n; size = block_size n })))
 unfolding taken_at held_at chunk_of
 taken_is s mode c n kind h =
     let m : 0x18 + n + padding n - (0x18 + padding n) ≡ n = omega arith in
@@ -184,7 +184,7 @@ taken_is s mode c n kind h =
     rw ((as_written mode kind n).0, (as_written mode kind n).1, le-ltb (0x18 + n + padding n) (0x18 + padding n) (omega arith), m, le-ltb (length s) (c + 0x20 + n) (omega arith), next)
 
 opened_is : (stream : Stream) (s : List ℕ) (c n : ℕ) (applied : Applied) → Takes applied stream → c + block_size n ≤ length s
-    → opened_at (length s) applied c (opened (kind_for stream) n) ≡ Found (chunk_in c (record { kind = kind_for stream; len = n; size = block_size n }))
+    → opened_at (length s) applied c (opened (kind_for stream) n) ≡ Ok (Some (chunk_in c (record { kind = kind_for stream; len = n; size = block_size n })))
 unfolding opened_at
 opened_is Video s c n applied t h = taken_is s applied.payloads c n kind.Video h
 opened_is Audio s c n applied t h = rw t (taken_is s applied.payloads c n kind.Audio h)
@@ -201,7 +201,7 @@ module _ (by : Unmasking) (stream : Stream) (payload more : List ℕ) {s : List 
   held_few = omega (arith, held_long)
 
   pub chunk_found : (applied : Applied) → Takes applied stream → stands_at contents_end payload 0 ≡ false
-      → chunk_at s applied p ≡ Found (chunk_in p (payload_line stream payload))
+      → chunk_at s applied p ≡ Ok (Some (chunk_in p (payload_line stream payload)))
   unfolding chunk_at
   chunk_found applied t e =
       let l = left_at stream held more f held_few in
@@ -213,7 +213,7 @@ module _ (by : Unmasking) (stream : Stream) (payload more : List ℕ) {s : List 
   chunk_payload = rw held_long at (payload_is stream held more f held_few)
 
 module _ (stream : Stream) (more : List ℕ) {s : List ℕ} {p : ℕ} (f : From s p (block (letters_of stream) (marker_of contents_end) more)) where
-  pub end_found : (applied : Applied) → chunk_at s applied p ≡ Found (chunk_in p end_line)
+  pub end_found : (applied : Applied) → chunk_at s applied p ≡ Ok (Some (chunk_in p end_line))
   unfolding chunk_at opened_at chunk_of
   end_found applied =
       let l = left_at stream (marker_of contents_end) more f (omega arith) in

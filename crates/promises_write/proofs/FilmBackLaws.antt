@@ -1,4 +1,7 @@
 -- A written film, read: its header, its chunks, and both streams. Assumes nothing.
+use Rattle.std.specs.Prelude.{Option, Some, None, Result, Ok}
+use Rattle.header.specs.declared.Header.{Header}
+use Rattle.refusal.specs.declared.Refusal.{Refusal}
 use Prim.Native.Nat.{ℕ, ◌+◌, ◌≤◌, ◌^◌}
 use mathlib.Core.Path.{◌≡◌, refl, sym, ap, subst, ◌∙◌}
 use mathlib.Core.List.{List, [], ◌∷◌, ◌++◌, map, append_assoc}
@@ -12,12 +15,8 @@ use Rattle.signature.specs.Signatures.{CRID, SFV, SFA, header_end, metadata_end,
 use Rattle.reading.specs.declared.Reading.{Reading}
 use Rattle.reading.specs.declared.Applied.{Applied}
 use Rattle.reading.specs.Choices.{takes_channel, applied_to}
-use Rattle.codec.specs.declared.Codec.{Codec}
-use Rattle.codec.specs.declared.Codec.TheVariants.{Value, Absent}
 use Rattle.unmasking.specs.declared.Unmasking.{Unmasking}
 use Rattle.unmasking.specs.Unmasking.{unmasking_of}
-use Rattle.header.specs.declared.HeaderAnswer.{HeaderAnswer}
-use Rattle.header.specs.declared.HeaderAnswer.TheVariants.{Read}
 use Rattle.header.specs.Headers.{header_of}
 use Rattle.chunk.specs.declared.Chunk.{Chunk}
 use Rattle.walk.specs.Walks.{clean, walk_from, joined}
@@ -97,11 +96,11 @@ name_part (byte ∷ name) more = rw (ne_eqb (length (byte ∷ name)) 0 (λ e. om
 
 -- ---- a film that was accepted
 
-absent : (codec : Codec) → is_given codec ≡ false → codec ≡ Absent
-absent (Value n) e = let z : ◌≡◌ {A = ℕ} 0 1 = cc in absurd (omega arith)
-absent Absent e = refl
+absent : (codec : Option ℕ) → is_given codec ≡ false → codec ≡ None
+absent (Some n) e = let z : ◌≡◌ {A = ℕ} 0 1 = cc in absurd (omega arith)
+absent None e = refl
 
-reads_as : {s rest name : List ℕ} {how : Reading} {answer : HeaderAnswer} {mpeg other other' : Codec} {audio audio' : Bool} → Reads s how answer name mpeg audio other rest → audio ≡ audio'
+reads_as : {s rest name : List ℕ} {how : Reading} {answer : Result Header Refusal} {mpeg other other' : Option ℕ} {audio audio' : Bool} → Reads s how answer name mpeg audio other rest → audio ≡ audio'
     → other ≡ other' → Reads s how answer name mpeg audio' other' rest
 reads_as r e f = rw (e, f) at r
 
@@ -128,7 +127,7 @@ module _ (name video audio : List ℕ) (packing : Packing) (n : ℕ) (accepted :
   unfolding film_bytes
   whole_is = refl
 
-  no_codec : packing.audio ≡ false → packing.audio_codec ≡ Absent
+  no_codec : packing.audio ≡ false → packing.audio_codec ≡ None
   no_codec e = absent packing.audio_codec (rw e at accepted.given)
 
   header_reads : (t : Bool) → packing.audio ≡ t → Reads container reading (header_of container reading) name packing.mpeg_codec packing.audio packing.audio_codec rest
@@ -150,8 +149,8 @@ module _ (name video audio : List ℕ) (packing : Packing) (n : ℕ) (accepted :
   start_is : reads.start ≡ start
   start_is = omega (arith, reads.from.ends, ap length whole_is, length-append (bytes_of (header_blocks name packing)) rest)
 
-  pub header_is : header_of container reading ≡ Read (header_back name packing start)
-  header_is = reads.is ∙ ap (λ (p : ℕ). Read (header_back name packing p)) start_is
+  pub header_is : header_of container reading ≡ Ok (header_back name packing start)
+  header_is = reads.is ∙ ap (λ (p : ℕ). Ok (header_back name packing p)) start_is
 
   -- ---- its chunks
 

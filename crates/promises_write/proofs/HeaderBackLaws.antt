@@ -1,4 +1,7 @@
 -- The header of a written film, block by block: the header walk finds the name, the codecs and where the chunks begin. Assumes nothing.
+use Rattle.std.specs.Prelude.{Option, Some, None, Result, Ok}
+use Rattle.header.specs.declared.Header.{Header}
+use Rattle.refusal.specs.declared.Refusal.{Refusal}
 use Prim.Native.Nat.{ℕ, ◌+◌, ◌%◌, ◌^◌, ◌≤◌, ◌<◌}
 use mathlib.Core.Path.{◌≡◌, refl, ◌∙◌}
 use mathlib.Core.List.{List, [], ◌++◌}
@@ -12,17 +15,8 @@ use Rattle.refusal.specs.declared.Cause.TheVariants.{NoVideo, NoAudio, NoHeaderE
 use Rattle.reading.specs.declared.Reading.{Reading}
 use Rattle.signature.specs.Signatures.{CRID, SFV, SFA, header_end, metadata_end, filename, mpeg_codec, audio_codec}
 use Rattle.cell.specs.declared.Cell.TheVariants.{Unsigned, Data}
-use Rattle.codec.specs.declared.Codec.{Codec}
-use Rattle.codec.specs.declared.Codec.TheVariants.{Value, Absent}
 use Rattle.film_name.specs.declared.Name.{Name}
-use Rattle.film_name.specs.declared.Name.TheVariants.{Part}
-use Rattle.block.specs.declared.BlockAnswer.{BlockAnswer}
-use Rattle.block.specs.declared.BlockAnswer.TheVariants.{Next}
-use Rattle.block.specs.declared.CodecBlock.TheVariants.{Coded}
-use Rattle.block.specs.declared.NameBlock.TheVariants.{Named}
 use Rattle.block.specs.Blocks.{and_then, marker_block, table_block, codec_block, name_block}
-use Rattle.header.specs.declared.HeaderAnswer.{HeaderAnswer}
-use Rattle.header.specs.declared.HeaderAnswer.TheVariants.{Read}
 use Rattle.header.specs.Headers.{step7_audio, step7_video, step7_table, step7, step6, step5, step4, step3_audio, step3, step2, step1, header_of}
 use Rattle.word.specs.Bytes.{bytes32, zeros, padding}
 use Rattle.write_blocks.specs.Blocks.{block_of}
@@ -33,10 +27,10 @@ use Rattle.promises_write.proofs.FromLaws.{From, from_next, drop_is}
 use Rattle.promises_write.proofs.BlockReadLaws.{block, inside_read, head_is, sound_ahead, other_ahead, marker-block, last_block_lem}
 use Rattle.promises_write.proofs.TableReadLaws.{no_zero, first-cell-is, last-cell-is, empty_is, no_cell, name_stored, codec_stored, name_value, codec_value}
 
-codec_few : (column : List ℕ) → length column < 2 ^ 16 → (codec : Codec) → length (codec_table column codec) < 2 ^ 31
+codec_few : (column : List ℕ) → length column < 2 ^ 16 → (codec : Option ℕ) → length (codec_table column codec) < 2 ^ 31
 unfolding codec_table
-codec_few column m (Value n) = omega (arith, table_length 0x54 column (bytes32 n) [])
-codec_few column m Absent = omega arith
+codec_few column m (Some n) = omega (arith, table_length 0x54 column (bytes32 n) [])
+codec_few column m None = omega arith
 
 once : (t : Bool) → cond t 0 (64 + cond t 0 22) ≡ cond t 0 86
 once true = refl
@@ -50,15 +44,15 @@ module _ (s : List ℕ) (how : Reading) where
   -- ---- a block with an empty table, one with a codec, and the name's
 
   module _ (letters : ℕ) (h : letters < 2 ^ 32) (more : List ℕ) {p : ℕ} where
-    pub empty_block : From s p (block letters empty_table more) → (missing : Cause) → table_block s how letters missing p ≡ Next (p + length (block_of letters empty_table))
+    pub empty_block : From s p (block letters empty_table more) → (missing : Cause) → table_block s how letters missing p ≡ Ok (p + length (block_of letters empty_table))
     unfolding table_block
     empty_block f missing =
         rw (head_is letters empty_table more f h (omega arith) missing, empty_is how.tables s (zeros (padding (length empty_table)) ++ more) (p + 0x20) (held_at letters empty_table more f))
 
-    pub codec_is : (column : List ℕ) → no_zero column ≡ true → length column < 2 ^ 16 → (codec : Codec) → CodecFits codec → From s p (block letters (codec_table column codec) more)
-        → (missing : Cause) → codec_block s how letters missing column p ≡ Coded codec (p + length (block_of letters (codec_table column codec)))
+    pub codec_is : (column : List ℕ) → no_zero column ≡ true → length column < 2 ^ 16 → (codec : Option ℕ) → CodecFits codec → From s p (block letters (codec_table column codec) more)
+        → (missing : Cause) → codec_block s how letters missing column p ≡ Ok (record { codec = codec; next = p + length (block_of letters (codec_table column codec)) })
     unfolding codec_block codec_table
-    codec_is column clean m (Value n) fits f missing =
+    codec_is column clean m (Some n) fits f missing =
         let inside = table_with 0x54 column (bytes32 n) [] in
         let l : length inside < 2 ^ 31 = omega (arith, table_length 0x54 column (bytes32 n) []) in
         let e : n % 2 ^ 32 ≡ n = omega arith in
@@ -68,10 +62,10 @@ module _ (s : List ℕ) (how : Reading) where
               (held_at letters inside more f),
           e,
         )
-    codec_is column clean m Absent fits f missing =
+    codec_is column clean m None fits f missing =
         rw (head_is letters empty_table more f h (omega arith) missing, no_cell how.tables s (zeros (padding (length empty_table)) ++ more) (p + 0x20) (held_at letters empty_table more f) column)
 
-  pub name_is : (name more : List ℕ) → length name ≤ 2 ^ 30 → From s 0 (block CRID (name_table name) more) → name_block s how ≡ Named (Part (name_start name) (length name)) (0 + length (block_of CRID (name_table name)))
+  pub name_is : (name more : List ℕ) → length name ≤ 2 ^ 30 → From s 0 (block CRID (name_table name) more) → name_block s how ≡ Ok (record { name = Some (record { start = name_start name; len = length name }); next = 0 + length (block_of CRID (name_table name)) })
   unfolding name_block name_table
   name_is name more h f =
       let cell = bytes32 0 ++ bytes32 (length name) in
@@ -87,9 +81,9 @@ module _ (s : List ℕ) (how : Reading) where
   -- ---- the steps: each goes on to the next block
 
   -- an answer that goes on to the place from which on the rest stands
-  record Goes (answer : BlockAnswer) (rest : List ℕ) : Type 0 where
+  record Goes (answer : Result ℕ Refusal) (rest : List ℕ) : Type 0 where
     pub place : ℕ
-    pub is : answer ≡ Next place
+    pub is : answer ≡ Ok place
     pub from : From s place rest
     pub round : place % 0x20 ≡ 0
 
@@ -97,7 +91,7 @@ module _ (s : List ℕ) (how : Reading) where
   abbrev Here : ℕ → List ℕ → Type 0
   Here p rest = From s p rest × (p % 0x20 ≡ 0)
 
-  past : (letters : ℕ) (inside rest : List ℕ) {p : ℕ} → Here p (block letters inside rest) → (answer : BlockAnswer) → answer ≡ Next (p + length (block_of letters inside)) → Goes answer rest
+  past : (letters : ℕ) (inside rest : List ℕ) {p : ℕ} → Here p (block letters inside rest) → (answer : Result ℕ Refusal) → answer ≡ Ok (p + length (block_of letters inside)) → Goes answer rest
   past letters inside rest {p} here answer e =
       record {
         place = p + length (block_of letters inside);
@@ -106,7 +100,7 @@ module _ (s : List ℕ) (how : Reading) where
         round = rw (block_length letters inside) (omega (arith, here.1));
       }
 
-  then_goes : {answer : BlockAnswer} {rest others : List ℕ} (k : ℕ → BlockAnswer) → Goes answer rest → ((p : ℕ) → Here p rest → Goes (k p) others) → Goes (and_then k answer) others
+  then_goes : {answer : Result ℕ Refusal} {rest others : List ℕ} (k : ℕ → Result ℕ Refusal) → Goes answer rest → ((p : ℕ) → Here p rest → Goes (k p) others) → Goes (and_then k answer) others
   then_goes k g next = let n = next g.place (g.from, g.round) in record { place = n.place; is = rw g.is n.is; from = n.from; round = n.round }
 
   module _ (letters : ℕ) (h : letters < 2 ^ 32) (rest : List ℕ) {p : ℕ} where
@@ -159,20 +153,20 @@ module _ (s : List ℕ) (how : Reading) where
   -- ---- the steps that give name and codecs
 
   -- a header that is read, and the rest from where its chunks begin
-  pub record Reads (answer : HeaderAnswer) (name : List ℕ) (mpeg : Codec) (audio : Bool) (other : Codec) (rest : List ℕ) : Type 0 where
+  pub record Reads (answer : Result Header Refusal) (name : List ℕ) (mpeg : Option ℕ) (audio : Bool) (other : Option ℕ) (rest : List ℕ) : Type 0 where
     pub start : ℕ
-    pub is : answer ≡ Read (record { name = Part (name_start name) (length name); mpeg_codec = mpeg; audio = audio; audio_codec = other; start = start })
+    pub is : answer ≡ Ok (record { name = Some (record { start = name_start name; len = length name }); mpeg_codec = mpeg; audio = audio; audio_codec = other; start = start })
     pub from : From s start rest
 
-  module _ (name : List ℕ) (mpeg : Codec) (h : length name ≤ 2 ^ 30) (fits : CodecFits mpeg) (rest : List ℕ) where
-    abbrev part : Name
-    part = Part (name_start name) (length name)
+  module _ (name : List ℕ) (mpeg : Option ℕ) (h : length name ≤ 2 ^ 30) (fits : CodecFits mpeg) (rest : List ℕ) where
+    abbrev part : Option Name
+    part = Some (record { start = name_start name; len = length name })
 
     -- after the name and the video codec
     abbrev front : List ℕ → List ℕ
     front more = block CRID (name_table name) (block SFV (codec_table mpeg_codec mpeg) more)
 
-    step3_reads : (audio : Bool) (other : Codec) (more : List ℕ) → ((p : ℕ) → Here p more → Reads (step3 s how part mpeg p) name mpeg audio other rest) → From s 0 (front more)
+    step3_reads : (audio : Bool) (other : Option ℕ) (more : List ℕ) → ((p : ℕ) → Here p more → Reads (step3 s how part mpeg p) name mpeg audio other rest) → From s 0 (front more)
         → length s ≤ 0x40000000 → Reads (header_of s how) name mpeg audio other rest
     unfolding header_of step1 step2 codec_block past
     step3_reads audio other more next f l =
@@ -191,10 +185,10 @@ module _ (s : List ℕ) (how : Reading) where
         }
 
     pub video_reads : From s 0 (front (marked rest SFV header_end (tabled rest SFV (marked rest SFV metadata_end rest)))) → length s ≤ 0x40000000
-        → Reads (header_of s how) name mpeg false Absent rest
+        → Reads (header_of s how) name mpeg false None rest
     unfolding step3
     video_reads =
-        step3_reads false Absent _
+        step3_reads false None _
         (λ p here.
         let g = video_goes rest p here in
         record {
@@ -203,7 +197,7 @@ module _ (s : List ℕ) (how : Reading) where
           from = g.from;
         })
 
-    pub audio_reads : (other : Codec) → CodecFits other
+    pub audio_reads : (other : Option ℕ) → CodecFits other
         → From s 0 (front (block SFA (codec_table audio_codec other) (marked rest SFV header_end (marked rest SFA header_end (tabled rest SFV (tabled rest SFA (last rest)))))))
         → length s ≤ 0x40000000 → Reads (header_of s how) name mpeg true other rest
     unfolding step3 step3_audio codec_block past

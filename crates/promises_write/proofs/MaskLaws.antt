@@ -1,4 +1,5 @@
 -- What masks leave: the first bytes of a payload, and after unmasking all of it. Assumes nothing.
+use Rattle.std.specs.Prelude.{Option, Some, None}
 use Prim.Native.Nat.{ℕ, ◌≤◌, ◌<◌}
 use mathlib.Core.Path.{◌≡◌, refl, sym, ◌∙◌}
 use mathlib.Core.List.{List}
@@ -19,9 +20,6 @@ use Rattle.mask.proofs.TailLaws.{tail_before}
 use Rattle.mask.proofs.AudioLaws.{audio_before}
 use Rattle.mask.proofs.UndoLaws.{tail_at, head_at, head_length, audio_at_lem}
 use Rattle.mask.proofs.Promises.{VideoUndone, AudioUndone}
-use Rattle.codec.specs.declared.Codec.{Codec}
-use Rattle.unmasking.specs.declared.Key.{Key}
-use Rattle.unmasking.specs.declared.Key.TheVariants as key
 use Rattle.unmasking.specs.declared.Unmasking.{Unmasking}
 use Rattle.unmasking.specs.Unmasking.{is_adx, unmasking_of, clear_video, clear_audio}
 use Rattle.write_plan.specs.declared.Stream.{Stream}
@@ -65,8 +63,8 @@ adx_undone : (t : Bool) (number : ℕ) (payload : List ℕ)
 adx_undone true number payload = AudioUndone number payload
 adx_undone false number payload = refl
 
-pub undone : (key : Key) (codec : Codec) (stream : Stream) (payload : List ℕ) → clear_as (unmasking_of key codec) stream (stored_as (unmasking_of key codec) stream payload) ≡ payload
-undone key.Absent codec Video payload = refl
-undone key.Absent codec Audio payload = refl
-undone (key.Given number) codec Video payload = (VideoUndone number payload).0
-undone (key.Given number) codec Audio payload = adx_undone (is_adx codec) number payload
+pub undone : (key : Option ℕ) (codec : Option ℕ) (stream : Stream) (payload : List ℕ) → clear_as (unmasking_of key codec) stream (stored_as (unmasking_of key codec) stream payload) ≡ payload
+undone None codec Video payload = refl
+undone None codec Audio payload = refl
+undone (Some number) codec Video payload = (VideoUndone number payload).0
+undone (Some number) codec Audio payload = adx_undone (is_adx codec) number payload

@@ -1,4 +1,7 @@
 -- The promises of specs/Promises.antt, each under its name. Assumes nothing.
+use Rattle.std.specs.Prelude.{Option, Some, Result, Ok}
+use Rattle.extract.specs.declared.Contents.{Contents}
+use Rattle.refusal.specs.declared.Refusal.{Refusal}
 use Prim.Native.Nat.{ℕ, ◌+◌, ◌≤◌}
 use mathlib.Core.Path.{◌≡◌, refl, sym, ap, ap₂, ◌∙◌, subst}
 use mathlib.Core.List.{List, []}
@@ -11,18 +14,12 @@ use borrow.Author.Tests.{le-ltb}
 use Rattle.reading.specs.declared.Reading.{Reading}
 use Rattle.reading.specs.Choices.{takes_channel, applied_to}
 use Rattle.refusal.specs.declared.Cause.TheVariants.{TooLong, MarkedPayload, CodecAlone}
-use Rattle.unmasking.specs.declared.Key.{Key}
-use Rattle.unmasking.specs.declared.Key.TheVariants.{Given}
 use Rattle.chunk.specs.declared.Chunk.{Chunk}
 use Rattle.header.specs.declared.Header.{Header}
 use Rattle.walk.specs.Walks.{video_size, audio_size}
 use Rattle.film.specs.Films.{Film, film, film_of, survey_of}
-use Rattle.film.specs.declared.Surveyed.TheVariants as survey
-use Rattle.extract.specs.declared.Extracted.{Extracted}
-use Rattle.extract.specs.declared.Extracted.TheVariants as extracted
 use Rattle.extract.specs.Extraction.{extracted_in, extracted_of, video_of, audio_of, left_by, SizesWithin, Extraction}
 use Rattle.extract.proofs.Promises.{SizesAreTheStreams, OneFilmWhereBitsAgree}
-use Rattle.lent.specs.declared.Written.TheVariants.{Size}
 use Rattle.lent.specs.Written.{written_in}
 use Rattle.lent.proofs.RoomLaws.{planned_so}
 use Rattle.write_plan.specs.declared.Packing.{Packing}
@@ -42,14 +39,14 @@ use Rattle.promises_write.proofs.FilmBackLaws.{film_is, video_is, audio_is, name
 -- ---- what is known of a film that was written
 
 module _ (name video audio : List ℕ) (packing : Packing) (out out' : List ℕ) (size : ℕ) (mpeg : CodecFits packing.mpeg_codec) (other : CodecFits packing.audio_codec)
-    (w : Writing name video audio packing out (Size size) out') (reading : Reading) (chosen : takes_channel reading.audio 0 ≡ true) where
+    (w : Writing name video audio packing out (Ok size) out') (reading : Reading) (chosen : takes_channel reading.audio 0 ≡ true) where
   abbrev heard_of : List ℕ
   heard_of = audio_in packing audio
 
   abbrev container : List ℕ
   container = film_bytes name video heard_of packing
 
-  so : (planned_of name video heard_of packing ≡ Size size) × (size ≤ length out)
+  so : (planned_of name video heard_of packing ≡ Ok size) × (size ≤ length out)
   so = planned_so (length out) (planned_of name video heard_of packing) size (sym w.0)
 
   pub taken : Accepted name video heard_of packing size
@@ -84,22 +81,22 @@ module _ (name video audio : List ℕ) (packing : Packing) (out out' : List ℕ)
 
   -- ---- what extraction answers
 
-  sizes : survey_of (film_of container reading) ≡ survey.Film header (applied_to packing.audio reading) (length found) (length video) (length heard_of)
+  sizes : survey_of (film_of container reading) ≡ Ok (record { header = header; reading = applied_to packing.audio reading; count = length found; video = length video; audio = length heard_of })
   sizes =
       let s = ap survey_of film_read in
       let l = SizesAreTheStreams container (reading) packing.key header (applied_to packing.audio reading) (length found) (video_size found) (audio_size found) s in
-      s ∙ ap₂ (λ (v a : ℕ). survey.Film header (applied_to packing.audio reading) (length found) v a) (sym l.0 ∙ ap length seen_is) (sym l.1 ∙ ap length heard_is)
+      s ∙ ap₂ (λ (v a : ℕ). Ok (record { header = header; reading = applied_to packing.audio reading; count = length found; video = v; audio = a })) (sym l.0 ∙ ap length seen_is) (sym l.1 ∙ ap length heard_is)
 
-  pub gives_back : (seen heard seen' heard' : List ℕ) (r : Extracted) → length video ≤ length seen → length heard_of ≤ length heard
+  pub gives_back : (seen heard seen' heard' : List ℕ) (r : Result Contents Refusal) → length video ≤ length seen → length heard_of ≤ length heard
       → Extraction container reading packing.key seen heard r seen' heard' → GivesBack name video heard_of packing container seen heard r seen' heard'
   gives_back seen heard seen' heard' r v a x =
-      let e : r ≡ extracted.Film (contents_back name video heard_of packing) =
+      let e : r ≡ Ok (contents_back name video heard_of packing) =
       x.0 ∙ ap (extracted_in (length seen) (length heard)) sizes
       ∙ rw (le-ltb (length seen) (length video) v, le-ltb (length heard) (length heard_of) a) in (
         e,
         name_is name video heard_of packing size taken mpeg other silent reading chosen,
-        x.1 ∙ ap₂ (λ (r : Extracted) (l : List ℕ). left_by r seen l) e seen_is,
-        x.2 ∙ ap₂ (λ (r : Extracted) (l : List ℕ). left_by r heard l) e heard_is,
+        x.1 ∙ ap₂ (λ (r : Result Contents Refusal) (l : List ℕ). left_by r seen l) e seen_is,
+        x.2 ∙ ap₂ (λ (r : Result Contents Refusal) (l : List ℕ). left_by r heard l) e heard_is,
       )
 
 -- ---- the promises
@@ -113,8 +110,8 @@ pub ReadingBackWhereBitsAgree : promised.ReadingBackWhereBitsAgree
 ReadingBackWhereBitsAgree name video audio packing out out' size key key' reading seen heard seen' heard' r mpeg other w chosen v a k agree x =
     let c = take size out' in
     let s = extracted_of c reading seen heard in
-    let video₀ = left_by s seen (video_of c (Given key) (film_of c reading)) in
-    let audio₀ = left_by s heard (audio_of c (Given key) (film_of c reading)) in
+    let video₀ = left_by s seen (video_of c (Some key) (film_of c reading)) in
+    let audio₀ = left_by s heard (audio_of c (Some key) (film_of c reading)) in
     let within : SizesWithin c s = subst (SizesWithin c) x.0 x.3 in
     let same = OneFilmWhereBitsAgree c reading key key' seen heard s r video₀ audio₀ seen' heard' agree (refl, refl, refl, within) x in
     let back = ReadingBack name video audio packing out out' size reading seen heard video₀ audio₀ s mpeg other w chosen v a (rw k (refl, refl, refl, within)) in
@@ -140,12 +137,12 @@ BytesPastTheFilmStay name video audio packing out out' size w =
     let n : 0 + length film ≡ size = omega (arith, sized) in
     (ap length w.1 ∙ length-sets out 0 film, ap (drop size) (w.1 ∙ sets-eq film out 0 room) ∙ drop_at film (drop (0 + length film) out) size (sym sized) ∙ ap (λ (k : ℕ). drop k out) n)
 
-same_plan : (name video audio : List ℕ) (packing : Packing) (key : Key) → planned_of name video audio packing ≡ planned_of name video audio (with_key key packing)
+same_plan : (name video audio : List ℕ) (packing : Packing) (key : Option ℕ) → planned_of name video audio packing ≡ planned_of name video audio (with_key key packing)
 unfolding planned_of film_size
 same_plan name video audio packing key =
     ap (λ (n : ℕ).
     cond (not packing.audio && is_given packing.audio_codec) (refused_by CodecAlone)
-    (cond (ltb 0x40000000 n) (refused_by TooLong) (cond (any_marked (payloads_of video) || any_marked (payloads_of audio)) (refused_by MarkedPayload) (Size n))))
+    (cond (ltb 0x40000000 n) (refused_by TooLong) (cond (any_marked (payloads_of video) || any_marked (payloads_of audio)) (refused_by MarkedPayload) (Ok n))))
     (film_length name video audio packing ∙ sym (film_length name video audio (with_key key packing)))
 
 pub NoKeyChangesTheAnswer : promised.NoKeyChangesTheAnswer

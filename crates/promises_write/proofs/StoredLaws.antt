@@ -1,5 +1,6 @@
 -- A film that is written with a key holds its streams as they are stored, cut at the same places: so it is the film that is written from those without a key.
 -- Assumes nothing.
+use Rattle.std.specs.Prelude.{Option, None, Ok}
 use Prim.Native.Nat.{ℕ, zero, suc, ◌+◌, ◌/◌, ◌≤◌, ◌<◌}
 use mathlib.Core.Path.{◌≡◌, refl, sym, ap, ap₂, ◌∙◌}
 use mathlib.Core.List.{List, [], ◌∷◌, ◌++◌, map, append-nil}
@@ -13,12 +14,8 @@ use borrow.Author.Tests.{le-leb, lt-leb}
 use Rattle.laws.proofs.Side.{side}
 use Rattle.refusal.specs.declared.Cause.TheVariants.{TooLong, MarkedPayload, CodecAlone}
 use Rattle.signature.specs.Signatures.{contents_end, same_bytes, stands_at}
-use Rattle.unmasking.specs.declared.Key.TheVariants as key
 use Rattle.unmasking.specs.declared.Unmasking.{Unmasking}
 use Rattle.unmasking.specs.Unmasking.{unmasking_of}
-use Rattle.codec.specs.declared.Codec.{Codec}
-use Rattle.lent.specs.declared.Written.{Written}
-use Rattle.lent.specs.declared.Written.TheVariants.{Size}
 use Rattle.write_plan.specs.declared.Stream.{Stream}
 use Rattle.write_plan.specs.declared.Stream.TheVariants.{Video, Audio}
 use Rattle.write_plan.specs.declared.Packing.{Packing}
@@ -97,17 +94,17 @@ module _ (by : Unmasking) (stream : Stream) where
 
 -- ---- the same blocks
 
-same_blocks : (by : Unmasking) (stream : Stream) (codec : Codec) (payloads : List (List ℕ))
-    → map (λ payload. block_in stream (stored_as (unmasking_of key.Absent codec) stream payload)) (map (stored_as by stream) payloads)
+same_blocks : (by : Unmasking) (stream : Stream) (codec : Option ℕ) (payloads : List (List ℕ))
+    → map (λ payload. block_in stream (stored_as (unmasking_of None codec) stream payload)) (map (stored_as by stream) payloads)
     ≡ map (λ payload. block_in stream (stored_as by stream payload)) payloads
 same_blocks by stream codec [] = refl
 same_blocks by Video codec (payload ∷ payloads) = ap (λ (l : List Block). block_in Video (stored_as by Video payload) ∷ l) (same_blocks by Video codec payloads)
 same_blocks by Audio codec (payload ∷ payloads) = ap (λ (l : List Block). block_in Audio (stored_as by Audio payload) ∷ l) (same_blocks by Audio codec payloads)
 
-same_chunks : (by : Unmasking) (stream : Stream) (codec : Codec) (bytes : List ℕ)
-    → chunks_of (unmasking_of key.Absent codec) stream (stored_from by stream (payloads_of bytes)) ≡ chunks_of by stream bytes
+same_chunks : (by : Unmasking) (stream : Stream) (codec : Option ℕ) (bytes : List ℕ)
+    → chunks_of (unmasking_of None codec) stream (stored_from by stream (payloads_of bytes)) ≡ chunks_of by stream bytes
 same_chunks by stream codec bytes =
-    ap (map (λ payload. block_in stream (stored_as (unmasking_of key.Absent codec) stream payload))) (payloads_stored by stream bytes) ∙ same_blocks by stream codec (payloads_of bytes)
+    ap (map (λ payload. block_in stream (stored_as (unmasking_of None codec) stream payload))) (payloads_stored by stream bytes) ∙ same_blocks by stream codec (payloads_of bytes)
 
 module _ (name video audio : List ℕ) (packing : Packing) where
   abbrev stored_video : List ℕ
@@ -134,7 +131,7 @@ module _ (name video audio : List ℕ) (packing : Packing) where
       let marked = ap₂ (λ (s t : Bool). s || t) (sym (stored_marked by Video video)) (sym (stored_marked by Audio audio)) in
       ap₂ (λ (n : ℕ) (t : Bool).
       cond (not packing.audio && is_given packing.audio_codec) (refused_by CodecAlone)
-      (cond (ltb 0x40000000 n) (refused_by TooLong) (cond t (refused_by MarkedPayload) (Size n)))) (ap length film_stored) marked
+      (cond (ltb 0x40000000 n) (refused_by TooLong) (cond t (refused_by MarkedPayload) (Ok n)))) (ap length film_stored) marked
 
 -- where there is no audio, none is stored
 pub none_stored : (by : Unmasking) → stored_from by Audio (payloads_of []) ≡ []

@@ -1,4 +1,5 @@
 -- A table that was written, as the readers find it: its layout, its one column, its one row, and the cell that it was made with. Assumes nothing.
+use Rattle.std.specs.Prelude.{Some, Ok}
 use Prim.Native.Nat.{ℕ, suc, ◌+◌, ◌-◌, ◌*◌, ◌%◌, ◌^◌, ◌≤◌, ◌<◌}
 use mathlib.Core.Path.{◌≡◌, refl, sym, ap, ◌∙◌}
 use mathlib.Core.List.{List, [], ◌∷◌, ◌++◌}
@@ -15,23 +16,17 @@ use Rattle.word.specs.Numbers.{be16, be32}
 use Rattle.reading.specs.declared.TableMode.{TableMode}
 use Rattle.reading.specs.declared.TableMode.TheVariants.{Original, ZeroColumns}
 use Rattle.layout.specs.declared.Layout.{Layout}
-use Rattle.layout.specs.declared.LayoutAnswer.TheVariants.{Laid}
 use Rattle.layout.specs.Layouts.{counted_in, layout_in, body_of}
 use Rattle.cell.specs.declared.Cell.{Cell}
 use Rattle.cell.specs.declared.Cell.TheVariants.{Nothing, Unsigned, Data}
-use Rattle.cell.specs.declared.CellAnswer.TheVariants.{Got}
-use Rattle.cell.specs.declared.Ending.TheVariants.{At}
 use Rattle.cell.specs.Parts.{zero_in}
 use Rattle.cell.specs.Cells.{value_at, cell_at}
 use Rattle.column.specs.declared.Storage.TheVariants.{Stored}
 use Rattle.column.specs.declared.Column.{Column}
-use Rattle.column.specs.declared.ColumnAnswer.TheVariants.{Found}
 use Rattle.column.specs.Storages.{storage_of, in_row}
 use Rattle.column.specs.Columns.{column_from, named, column_at}
-use Rattle.table.specs.declared.TableAnswer.TheVariants.{Table}
 use Rattle.table.specs.Walks.{columns_from, row_from, rows_from, walk_of}
 use Rattle.table.specs.Tables.{table_of, table_at}
-use Rattle.lookup.specs.declared.Lookup.TheVariants as lookup
 use Rattle.lookup.specs.Names.{spells}
 use Rattle.lookup.specs.Search.{search_from}
 use Rattle.lookup.specs.Lookups.{shifted, body_cell, cell_from, cell_of, last_cell_of}
@@ -53,12 +48,12 @@ parted true u e = let z : ◌≡◌ {A = ℕ} 0 1 = cc in absurd (omega arith)
 parted false u e = (refl, e)
 
 -- it ends at the zero behind it
-ends_at : (name blob : List ℕ) (p : ℕ) → no_zero name ≡ true → zero_in (name ++ (0 ∷ blob)) p ≡ At (p + length name)
+ends_at : (name blob : List ℕ) (p : ℕ) → no_zero name ≡ true → zero_in (name ++ (0 ∷ blob)) p ≡ Some (p + length name)
 unfolding zero_in
-ends_at [] blob p e = ap At (omega arith)
+ends_at [] blob p e = ap Some (omega arith)
 ends_at (byte ∷ name) blob p e =
     let n = parted (eqb byte 0) (no_zero name) e in
-    rw n.0 (ends_at name blob (suc p) n.1 ∙ ap At (omega arith))
+    rw n.0 (ends_at name blob (suc p) n.1 ∙ ap Some (omega arith))
 
 spelled : (b name blob : List ℕ) (p : ℕ) → drop p b ≡ name ++ (0 ∷ blob) → no_zero name ≡ true → spells b p name ≡ true
 unfolding spells
@@ -109,7 +104,7 @@ module _ (mode : TableMode) (tag : ℕ) (column cell blob : List ℕ) where
     unfolding table_with table_head
     fixed_read = (refl, refl, refl, refl)
 
-    layout_read : layout_in table mode ≡ Laid laid
+    layout_read : layout_in table mode ≡ Ok laid
     unfolding layout_in counted_in
     layout_read =
         let n : be32 table 4 - 24 ≡ 6 + length cell + length column + length blob = omega (arith, size_read) in
@@ -139,7 +134,7 @@ module _ (mode : TableMode) (tag : ℕ) (column cell blob : List ℕ) where
     abbrev entry : Column
     entry = record { name = 29 + length cell + 0; storage = Stored; kind = tag % 16; constant = Nothing; next = 5 }
 
-    column_read : column_at body 0 laid ≡ Found entry
+    column_read : column_at body 0 laid ≡ Ok entry
     unfolding column_at named column_from
     column_read =
         let n : 29 + length cell + 0 - 24 ≡ 5 + length cell = omega arith in
@@ -147,12 +142,12 @@ module _ (mode : TableMode) (tag : ℕ) (column cell blob : List ℕ) where
 
     -- ---- its row and its cell
 
-    module _ (value : Cell) (got : cell_at body (tag % 16) 5 laid ≡ Got value) where
-      table-read : (place : ℕ) (t : List ℕ) → layout_in t mode ≡ Laid laid → body_of t laid ≡ body → table_of place t mode ≡ Table laid
+    module _ (value : Cell) (got : cell_at body (tag % 16) 5 laid ≡ Ok value) where
+      table-read : (place : ℕ) (t : List ℕ) → layout_in t mode ≡ Ok laid → body_of t laid ≡ body → table_of place t mode ≡ Ok laid
       unfolding table_of walk_of columns_from rows_from row_from
       table-read place t e f = rw (e, f, column_read, stored, got)
 
-      cell-read : (by : ℕ) → body_cell body by laid column 0 ≡ Got (shifted by value)
+      cell-read : (by : ℕ) → body_cell body by laid column 0 ≡ Ok (shifted by value)
       unfolding body_cell search_from
       cell-read by =
           let n : 29 + length cell + 0 - 24 ≡ 5 + length cell = omega arith in
@@ -161,14 +156,14 @@ module _ (mode : TableMode) (tag : ℕ) (column cell blob : List ℕ) where
 
       module _ (more : List ℕ) (c : length cell < 2 ^ 16) (m : length column < 2 ^ 16) (d : length blob < 2 ^ 31) (s : List ℕ) (place : ℕ)
           (here : drop place s ≡ table_with tag column cell blob ++ more) where
-        pub table_is : table_at s place mode ≡ Table laid
+        pub table_is : table_at s place mode ≡ Ok laid
         table_is = ap (λ (t : List ℕ). table_of place t mode) here ∙ table-read place (table_with tag column cell blob ++ more) (layout_read more c m d) (body_is more c m d)
 
-        pub first-cell-is : cell_of s place mode column 0 ≡ lookup.Holds (shifted (place + 32) value)
+        pub first-cell-is : cell_of s place mode column 0 ≡ Ok (shifted (place + 32) value)
         unfolding cell_from
         first-cell-is = rw (table_is, here, body_is more c m d, cell-read (place + 32))
 
-        pub last-cell-is : last_cell_of s place mode column ≡ lookup.Holds (shifted (place + 32) value)
+        pub last-cell-is : last_cell_of s place mode column ≡ Ok (shifted (place + 32) value)
         last-cell-is = rw table_is (rw table_is at first-cell-is)
 
 -- ---- a table without a column
@@ -177,17 +172,17 @@ module _ (mode : TableMode) (s more : List ℕ) (place : ℕ) (here : drop place
   abbrev bare : Layout
   bare = record { size = 0; columns = 0; rows = 0; start = 0; strings = 0; blobs = 0; mode = mode }
 
-  bare_read : layout_in (empty_table ++ more) mode ≡ Laid bare
+  bare_read : layout_in (empty_table ++ more) mode ≡ Ok bare
   unfolding layout_in counted_in
   bare_read =
       let n : length (empty_table ++ more) ≡ 32 + length more = length-append empty_table more in
       rw (le-ltb (length (empty_table ++ more)) 4 (omega (arith, n)), le-ltb (length (empty_table ++ more)) 32 (omega (arith, n)))
 
-  pub empty_is : table_at s place mode ≡ Table bare
+  pub empty_is : table_at s place mode ≡ Ok bare
   unfolding table_of walk_of columns_from rows_from
   empty_is = rw (here, bare_read)
 
-  pub no_cell : (column : List ℕ) → cell_of s place mode column 0 ≡ lookup.Holds Nothing
+  pub no_cell : (column : List ℕ) → cell_of s place mode column 0 ≡ Ok Nothing
   unfolding cell_from
   no_cell column = rw empty_is
 
@@ -204,7 +199,7 @@ codec_stored ZeroColumns = refl
 -- a name: the data behind the column's name
 pub name_value : (mode : TableMode) (name : List ℕ) → length name < 2 ^ 31
     → cell_at (body mode 0x5B filename (bytes32 0 ++ bytes32 (length name)) name) 0x0B 5 (laid mode 0x5B filename (bytes32 0 ++ bytes32 (length name)) name)
-    ≡ Got (Data (cond (eqb (length name) 0) 0 22) (length name))
+    ≡ Ok (Data (cond (eqb (length name) 0) 0 22) (length name))
 unfolding cell_at value_at
 name_value mode name h =
     let b = body mode 0x5B filename (bytes32 0 ++ bytes32 (length name)) name in
@@ -214,7 +209,7 @@ name_value mode name h =
     (λ (k : 1 ≤ length name). rw (ne_eqb (length name) 0 (λ e. omega arith), le-leb (22 + length name) (length b) (omega (arith, l)))) (side (length name) 1))
 
 -- a codec: its number
-pub codec_value : (mode : TableMode) (column : List ℕ) (n : ℕ) → n < 2 ^ 32 → cell_at (body mode 0x54 column (bytes32 n) []) 4 5 (laid mode 0x54 column (bytes32 n) []) ≡ Got (Unsigned n)
+pub codec_value : (mode : TableMode) (column : List ℕ) (n : ℕ) → n < 2 ^ 32 → cell_at (body mode 0x54 column (bytes32 n) []) 4 5 (laid mode 0x54 column (bytes32 n) []) ≡ Ok (Unsigned n)
 unfolding cell_at value_at
 codec_value mode column n h =
     let b = body mode 0x54 column (bytes32 n) [] in

@@ -1,4 +1,5 @@
 -- The walk over the chunks of a written film: payloads by turns, each with the bytes that it was made of, and then the ends. Assumes nothing.
+use Rattle.std.specs.Prelude.{Option}
 use Prim.Native.Nat.{ℕ, ◌+◌, ◌-◌, ◌≤◌, ◌<◌}
 use mathlib.Core.Path.{◌≡◌, refl, sym, ap, ap₂, ◌∙◌}
 use mathlib.Core.List.{List, [], ◌∷◌, ◌++◌, map, append_assoc, append-nil}
@@ -13,10 +14,8 @@ use Rattle.chunk.specs.declared.Chunk.{Chunk}
 use Rattle.chunk.specs.Chunks.{chunk_at}
 use Rattle.walk.specs.Walks.{Walk, clean, onto, walk_from, joined}
 use Rattle.walk.proofs.WalkLaws.{walk_found, walk_over}
-use Rattle.codec.specs.declared.Codec.{Codec}
 use Rattle.mask.specs.Video.{unmasked_video}
 use Rattle.mask.specs.Audio.{masked_audio}
-use Rattle.unmasking.specs.declared.Key.{Key}
 use Rattle.unmasking.specs.declared.Unmasking.{Unmasking}
 use Rattle.unmasking.specs.Unmasking.{is_masked, unmasking_of, clear_video, clear_audio}
 use Rattle.extract.specs.Streams.{video_part, audio_part, video_piece, audio_piece}
@@ -85,7 +84,7 @@ no_audio : (by : Unmasking) → clear_audio by 0 [] ≡ []
 unfolding masked_audio tab
 no_audio by = nothing (is_masked by.audio 0) (masked_audio by.keys []) refl
 
-module _ (key : Key) (codec : Codec) (s : List ℕ) where
+module _ (key : Option ℕ) (codec : Option ℕ) (s : List ℕ) where
   abbrev by : Unmasking
   by = unmasking_of key codec
 

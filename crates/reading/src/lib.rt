@@ -7,7 +7,7 @@ ghost use Rattle.std.specs.Prelude.{◌≡◌};
 ghost use Rattle.reading.specs.Choices.{takes_channel, as_original, choice_by, payloads_by, mode_by, reading_by, applied_to};
 
 // Which audio payloads are asked for: none, those of every channel, or those of one.
-#[derive(Clone, Copy)]
+#[derive(Clone, Copy, Debug, PartialEq, Eq)]
 pub enum AudioChoice {
     NotChosen,
     Chosen,
@@ -15,7 +15,7 @@ pub enum AudioChoice {
 }
 
 // How the columns of tables are read.
-#[derive(Clone, Copy)]
+#[derive(Clone, Copy, Debug, PartialEq, Eq)]
 pub enum TableMode {
     // As the Rust reads them: each that has no constant has a value in every row.
     Original,
@@ -24,7 +24,7 @@ pub enum TableMode {
 }
 
 // Where the payloads of chunks start.
-#[derive(Clone, Copy)]
+#[derive(Clone, Copy, Debug, PartialEq, Eq)]
 pub enum PayloadMode {
     // As the Rust reads them: 0x20 bytes into the chunk, whatever its header size says.
     Original,
@@ -33,7 +33,7 @@ pub enum PayloadMode {
 }
 
 // How to read, as a caller asks.
-#[derive(Clone, Copy)]
+#[derive(Clone, Copy, Debug, PartialEq, Eq)]
 pub struct Reading {
     pub audio: AudioChoice,
     pub payloads: PayloadMode,
@@ -41,7 +41,7 @@ pub struct Reading {
 }
 
 // How one film is read: what was asked, as far as the film has it.
-#[derive(Clone, Copy)]
+#[derive(Clone, Copy, Debug, PartialEq, Eq)]
 pub struct Applied {
     pub audio: AudioChoice,
     pub payloads: PayloadMode,
@@ -83,57 +83,75 @@ pub fn as_original(audio: AudioChoice) -> Reading
 fn choice_by(number: u8, channel: u8) -> AudioChoice
     ensures { result ≡ choice_by number channel }
 {
-    if number == 0 {
-        return AudioChoice::NotChosen;
+    match number {
+        0 => AudioChoice::NotChosen,
+        2 => AudioChoice::Channel(channel),
+        _ => AudioChoice::Chosen,
     }
-    if number == 2 {
-        return AudioChoice::Channel(channel);
-    }
-    AudioChoice::Chosen
 }
 
-// The payload mode by a number: after the header by 1, the Rust's mode by every other number.
-fn payloads_by(number: u8) -> PayloadMode
-    ensures { result ≡ payloads_by number }
-{
-    if number == 1 {
-        return PayloadMode::AfterHeader;
+// After the header by 1, the Rust's mode by every other number.
+impl From<u8> for PayloadMode {
+    ghost from_gives = { λ number mode. mode ≡ payloads_by number };
+
+    fn from(number: u8) -> Self {
+        match number {
+            1 => PayloadMode::AfterHeader,
+            _ => PayloadMode::Original,
+        }
     }
-    PayloadMode::Original
 }
 
-// The table mode by a number: zero columns by 1, the Rust's mode by every other number.
-pub fn mode_by(number: u8) -> TableMode
-    ensures { result ≡ mode_by number }
-{
-    if number == 1 {
-        return TableMode::ZeroColumns;
+// Zero columns by 1, the Rust's mode by every other number.
+impl From<u8> for TableMode {
+    ghost from_gives = { λ number mode. mode ≡ mode_by number };
+
+    fn from(number: u8) -> Self {
+        match number {
+            1 => TableMode::ZeroColumns,
+            _ => TableMode::Original,
+        }
     }
-    TableMode::Original
 }
 
 // What C asks for.
+impl From<ReadingBytes> for Reading {
+    ghost from_gives = { λ asked reading. reading ≡ reading_by asked };
+
+    fn from(asked: ReadingBytes) -> Self {
+        Reading {
+            audio: choice_by(asked.audio, asked.channel),
+            payloads: PayloadMode::from(asked.payloads),
+            tables: TableMode::from(asked.tables),
+        }
+    }
+}
+
+// The table mode by a number. It stands beside `From`: docs/CONTRACTS.md and a wrong answer have this name.
+pub fn mode_by(number: u8) -> TableMode
+    ensures { result ≡ mode_by number }
+{
+    TableMode::from(number)
+}
+
+// What C asks for. It stands beside `From`: docs/CONTRACTS.md has this name.
 pub fn reading_by(asked: ReadingBytes) -> Reading
     ensures { result ≡ reading_by asked }
 {
-    Reading {
-        audio: choice_by(asked.audio, asked.channel),
-        payloads: payloads_by(asked.payloads),
-        tables: mode_by(asked.tables),
-    }
+    Reading::from(asked)
 }
 
 // What applies to a film: where it has no audio, none is taken.
 pub fn applied_to(present: bool, reading: Reading) -> Applied
     ensures { result ≡ applied_to present reading }
 {
-    let audio = reading.audio;
-    let payloads = reading.payloads;
-    if present {
-        return Applied { audio, payloads };
-    }
+    let audio = if present {
+        reading.audio
+    } else {
+        AudioChoice::NotChosen
+    };
     Applied {
-        audio: AudioChoice::NotChosen,
-        payloads,
+        audio,
+        payloads: reading.payloads,
     }
 }

@@ -1,7 +1,7 @@
 // Why a table or a container is refused, or a film is not written, and where. Rules R.
 #![tactic(auto)]
 
-ghost use Rattle.std.specs.Prelude.{◌≡◌};
+ghost use Rattle.std.specs.Prelude.{◌≡◌, Err};
 ghost use Rattle.refusal.specs.Numbers.{number_of, beside_of};
 
 // The longest container that is read or written: a longer one is `TooLong`.
@@ -9,7 +9,7 @@ pub const LONGEST: usize = 0x4000_0000;
 
 // Why. The cases stand in the order of their numbers: 1 to 13 and 15 to 23. 14 is struck: it cannot occur, and no
 // other cause has it.
-#[derive(Clone, Copy)]
+#[derive(Clone, Copy, Debug, PartialEq, Eq)]
 pub enum Cause {
     // Bytes run out.
     RanOut,
@@ -58,13 +58,20 @@ pub enum Cause {
 }
 
 // Why, and where.
-#[derive(Clone, Copy)]
+#[derive(Clone, Copy, Debug, PartialEq, Eq)]
 pub struct Refusal {
     pub cause: Cause,
     pub place: usize,
 }
 
-// The paper's number of a cause.
+// A refusal, as the answer of a function that would have given a T.
+pub fn refused<T>(cause: Cause, place: usize) -> Result<T, Refusal>
+    ensures { result ≡ Err (record { cause = cause; place = place }) }
+{
+    Err(Refusal { cause, place })
+}
+
+// The paper's number of a cause. No `From` beside it: docs/CONTRACTS.md and the crates above have this name, and a second says no more.
 pub fn number_of(cause: Cause) -> u8
     ensures { result ≡ number_of cause }
 {
@@ -80,7 +87,7 @@ pub fn number_of(cause: Cause) -> u8
         Cause::TooSmall => 9,
         Cause::TooMany => 10,
         Cause::TooLong => 11,
-        Cause::ShortOutput { video: _, audio: _ } => 12,
+        Cause::ShortOutput { .. } => 12,
         Cause::ShortList(_) => 13,
         Cause::MarkedPayload => 15,
         Cause::ShortRoom(_) => 16,
@@ -96,7 +103,7 @@ pub fn number_of(cause: Cause) -> u8
 
 // What is returned beside a number: the type beside 8, both sizes needed beside 12, the chunk count beside 13, the size
 // needed beside 16. All else is 0.
-#[derive(Clone, Copy)]
+#[derive(Clone, Copy, Debug, Default, PartialEq, Eq)]
 pub struct Beside {
     pub video_size: usize,
     pub audio_size: usize,
@@ -109,59 +116,19 @@ pub struct Beside {
 pub fn beside_of(cause: Cause) -> Beside
     ensures { result ≡ beside_of cause }
 {
-    let nothing = Beside {
-        video_size: 0,
-        audio_size: 0,
-        count: 0,
-        unknown_type: 0,
-        size: 0,
-    };
+    let nothing = Beside::default();
     match cause {
-        Cause::RanOut => nothing,
-        Cause::NoFilm => nothing,
-        Cause::NoTable => nothing,
-        Cause::NoVideo => nothing,
-        Cause::NoAudio => nothing,
-        Cause::NoHeaderEnd => nothing,
-        Cause::NoMetadataEnd => nothing,
         Cause::UnknownType(kind) => Beside {
-            video_size: 0,
-            audio_size: 0,
-            count: 0,
             unknown_type: kind,
-            size: 0,
+            ..nothing
         },
-        Cause::TooSmall => nothing,
-        Cause::TooMany => nothing,
-        Cause::TooLong => nothing,
         Cause::ShortOutput { video, audio } => Beside {
             video_size: video,
             audio_size: audio,
-            count: 0,
-            unknown_type: 0,
-            size: 0,
+            ..nothing
         },
-        Cause::ShortList(count) => Beside {
-            video_size: 0,
-            audio_size: 0,
-            count,
-            unknown_type: 0,
-            size: 0,
-        },
-        Cause::MarkedPayload => nothing,
-        Cause::ShortRoom(size) => Beside {
-            video_size: 0,
-            audio_size: 0,
-            count: 0,
-            unknown_type: 0,
-            size,
-        },
-        Cause::ShortHeader => nothing,
-        Cause::UnknownStorage => nothing,
-        Cause::Foreign => nothing,
-        Cause::ManyAudios => nothing,
-        Cause::NoBeginning => nothing,
-        Cause::BadTenants => nothing,
-        Cause::CodecAlone => nothing,
+        Cause::ShortList(count) => Beside { count, ..nothing },
+        Cause::ShortRoom(size) => Beside { size, ..nothing },
+        _ => nothing,
     }
 }

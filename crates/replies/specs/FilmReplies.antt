@@ -1,12 +1,10 @@
 -- The reply on a film, field by field. Ours, beyond the rules, as TableReplies are.
-use Rattle.std.specs.Prelude.{ℕ, Bool, true, false}
+use Rattle.std.specs.Prelude.{ℕ, Bool, true, false, Option, Some, None, Result, Ok, Err}
+use Rattle.refusal.specs.declared.Refusal.{Refusal}
 use Rattle.refusal.specs.Numbers.{number_of, beside_of}
 use Rattle.film_name.specs.declared.Name.{Name}
-use Rattle.film_name.specs.declared.Name.TheVariants.{Part, Fallback}
 use Rattle.codec.specs.Numbers.{presence_of, value_of, video_number, audio_number}
 use Rattle.extract.specs.declared.Contents.{Contents}
-use Rattle.extract.specs.declared.Extracted.{Extracted}
-use Rattle.extract.specs.declared.Extracted.TheVariants as extracted
 use Rattle.replies.specs.declared.FilmReply.{FilmReply}
 
 abbrev pub bit_of : Bool → ℕ
@@ -14,17 +12,17 @@ bit_of true = 1
 bit_of false = 0
 
 -- "the name as a part of the container or of the fallback name": which of the two, and which part of it
-abbrev pub name_source : Name → ℕ
-name_source (Part start len) = 0
-name_source Fallback = 1
+abbrev pub name_source : Option Name → ℕ
+name_source (Some part) = 0
+name_source None = 1
 
-abbrev pub name_start : Name → ℕ
-name_start (Part start len) = start
-name_start Fallback = 0
+abbrev pub name_start : Option Name → ℕ
+name_start (Some part) = part.start
+name_start None = 0
 
-abbrev pub name_length : ℕ → Name → ℕ
-name_length fallback (Part start len) = len
-name_length fallback Fallback = fallback
+abbrev pub name_length : ℕ → Option Name → ℕ
+name_length fallback (Some part) = part.len
+name_length fallback None = fallback
 
 -- "Success returns the name .., whether there is audio, `mpeg_codec` and `audio_codec` (each may be absent), the kinds .., and both sizes."
 abbrev pub contents_reply : ℕ → Contents → FilmReply
@@ -47,9 +45,9 @@ contents_reply fallback c = record {
 }
 
 -- refused, all is 0 but the number, the place, "the type" beside 8 and "both sizes needed" beside 12
-abbrev pub film_reply : ℕ → Extracted → FilmReply
-film_reply fallback (extracted.Film contents) = contents_reply fallback contents
-film_reply fallback (extracted.Refused refusal) = record {
+abbrev pub film_reply : ℕ → Result Contents Refusal → FilmReply
+film_reply fallback (Ok contents) = contents_reply fallback contents
+film_reply fallback (Err refusal) = record {
   refused_at = refusal.place;
   name_start = 0;
   name_length = 0;

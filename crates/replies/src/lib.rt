@@ -6,16 +6,17 @@ ghost use Rattle.std.specs.Prelude.{◌≡◌};
 ghost use Rattle.replies.specs.TableReplies.{table_reply, cell_reply, storage_number, column_reply};
 ghost use Rattle.replies.specs.FilmReplies.{bit_of, name_source, name_start, name_length, contents_reply, film_reply};
 
+use cell::Cell;
 use column::Storage;
-use extract::{Contents, Extracted};
+use extract::Contents;
 use film_name::Name;
-use lookup::Lookup;
+use layout::Layout;
 use reading::TableMode;
-use table::TableAnswer;
+use refusal::Refusal;
 
 // The reply on a table.
 #[repr(C)]
-#[derive(Clone, Copy)]
+#[derive(Clone, Copy, Default)]
 pub struct TableReply {
     pub refused_at: usize,
     pub columns: usize,
@@ -26,7 +27,7 @@ pub struct TableReply {
 
 // The reply on a cell. `value` is a number, a float's bits, or where a string or data starts.
 #[repr(C)]
-#[derive(Clone, Copy)]
+#[derive(Clone, Copy, Default)]
 pub struct CellReply {
     pub refused_at: usize,
     pub value: u64,
@@ -38,7 +39,7 @@ pub struct CellReply {
 
 // The reply on a column. `storage` is what its type byte says in the table's mode; where there is no such column both are 0.
 #[repr(C)]
-#[derive(Clone, Copy)]
+#[derive(Clone, Copy, Default)]
 pub struct ColumnReply {
     pub refused_at: usize,
     pub name_start: usize,
@@ -51,7 +52,7 @@ pub struct ColumnReply {
 
 // The reply on a film.
 #[repr(C)]
-#[derive(Clone, Copy)]
+#[derive(Clone, Copy, Default)]
 pub struct FilmReply {
     pub refused_at: usize,
     pub name_start: usize,
@@ -71,60 +72,45 @@ pub struct FilmReply {
 }
 
 // A table's counts, or why there is none.
-pub fn table_reply(answer: TableAnswer) -> TableReply
+pub fn table_reply(answer: Result<Layout, Refusal>) -> TableReply
     ensures { result ≡ table_reply answer }
 {
     match answer {
-        TableAnswer::Table(layout) => TableReply {
-            refused_at: 0,
+        Ok(layout) => TableReply {
             columns: layout.columns,
             rows: layout.rows,
-            number: 0,
-            unknown_type: 0,
+            ..TableReply::default()
         },
-        TableAnswer::NoTable(refusal) => {
-            let cause = refusal.cause;
-            let beside = refusal::beside_of(cause);
-            TableReply {
-                refused_at: refusal.place,
-                columns: 0,
-                rows: 0,
-                number: refusal::number_of(cause),
-                unknown_type: beside.unknown_type,
-            }
-        }
+        Err(refusal) => TableReply {
+            refused_at: refusal.place,
+            number: refusal::number_of(refusal.cause),
+            unknown_type: refusal::beside_of(refusal.cause).unknown_type,
+            ..TableReply::default()
+        },
     }
 }
 
 // A cell as numbers, or why there is no table.
-pub fn cell_reply(answer: Lookup) -> CellReply
+pub fn cell_reply(answer: Result<Cell, Refusal>) -> CellReply
     ensures { result ≡ cell_reply answer }
 {
     match answer {
-        Lookup::Holds(held) => CellReply {
-            refused_at: 0,
+        Ok(held) => CellReply {
             value: cell::value_of(held),
             length: cell::length_of(held),
-            number: 0,
-            unknown_type: 0,
             kind: cell::case_of(held),
+            ..CellReply::default()
         },
-        Lookup::NoTable(refusal) => {
-            let cause = refusal.cause;
-            let beside = refusal::beside_of(cause);
-            CellReply {
-                refused_at: refusal.place,
-                value: 0,
-                length: 0,
-                number: refusal::number_of(cause),
-                unknown_type: beside.unknown_type,
-                kind: 0,
-            }
-        }
+        Err(refusal) => CellReply {
+            refused_at: refusal.place,
+            number: refusal::number_of(refusal.cause),
+            unknown_type: refusal::beside_of(refusal.cause).unknown_type,
+            ..CellReply::default()
+        },
     }
 }
 
-// The number of a storage.
+// The number of a storage, as C reads it.
 fn storage_number(storage: Storage) -> u8
     ensures { result ≡ storage_number storage }
 {
@@ -137,86 +123,46 @@ fn storage_number(storage: Storage) -> u8
 }
 
 // A column by its name and its type byte, in a table mode, or why there is no table.
-pub fn column_reply(name: Lookup, tag: u8, mode: TableMode) -> ColumnReply
+pub fn column_reply(name: Result<Cell, Refusal>, tag: u8, mode: TableMode) -> ColumnReply
     ensures { result ≡ column_reply mode tag name }
 {
     match name {
-        Lookup::Holds(held) => {
-            if cell::case_of(held) == 0 {
-                return ColumnReply {
-                    refused_at: 0,
-                    name_start: 0,
-                    name_length: 0,
-                    number: 0,
-                    unknown_type: 0,
-                    storage: 0,
-                    type_byte: 0,
-                };
-            }
-            ColumnReply {
-                refused_at: 0,
-                name_start: cell::value_of(held) as usize,
-                name_length: cell::length_of(held),
-                number: 0,
-                unknown_type: 0,
-                storage: storage_number(column::storage_of(tag as usize, mode)),
-                type_byte: tag,
-            }
-        }
-        Lookup::NoTable(refusal) => {
-            let cause = refusal.cause;
-            let beside = refusal::beside_of(cause);
-            ColumnReply {
-                refused_at: refusal.place,
-                name_start: 0,
-                name_length: 0,
-                number: refusal::number_of(cause),
-                unknown_type: beside.unknown_type,
-                storage: 0,
-                type_byte: 0,
-            }
-        }
+        Ok(Cell::Nothing) => ColumnReply::default(),
+        Ok(held) => ColumnReply {
+            name_start: cell::value_of(held) as usize,
+            name_length: cell::length_of(held),
+            storage: storage_number(column::storage_of(usize::from(tag), mode)),
+            type_byte: tag,
+            ..ColumnReply::default()
+        },
+        Err(refusal) => ColumnReply {
+            refused_at: refusal.place,
+            number: refusal::number_of(refusal.cause),
+            unknown_type: refusal::beside_of(refusal.cause).unknown_type,
+            ..ColumnReply::default()
+        },
     }
-}
-
-// Whether, as a number.
-fn bit_of(holds: bool) -> u8
-    ensures { result ≡ bit_of holds }
-{
-    if holds {
-        return 1;
-    }
-    0
 }
 
 // Where a name comes from: 0 the container, 1 the fallback.
-fn name_source(name: Name) -> u8
+fn name_source(name: Option<Name>) -> u8
     ensures { result ≡ name_source name }
 {
-    match name {
-        Name::Part { start: _, len: _ } => 0,
-        Name::Fallback => 1,
-    }
+    u8::from(name.is_none())
 }
 
 // Where a name starts there: the fallback is a name as a whole.
-fn name_start(name: Name) -> usize
+fn name_start(name: Option<Name>) -> usize
     ensures { result ≡ name_start name }
 {
-    match name {
-        Name::Part { start, len: _ } => start,
-        Name::Fallback => 0,
-    }
+    name.map_or(0, |part| part.start)
 }
 
 // How long a name is, with a fallback of a length.
-fn name_length(name: Name, fallback: usize) -> usize
+fn name_length(name: Option<Name>, fallback: usize) -> usize
     ensures { result ≡ name_length fallback name }
 {
-    match name {
-        Name::Part { start: _, len } => len,
-        Name::Fallback => fallback,
-    }
+    name.map_or(fallback, |part| part.len)
 }
 
 // What a film holds that is accepted.
@@ -229,49 +175,37 @@ fn contents_reply(contents: Contents, fallback: usize) -> FilmReply
     let video_kind = contents.video_kind;
     let audio_kind = contents.audio_kind;
     FilmReply {
-        refused_at: 0,
         name_start: name_start(name),
         name_length: name_length(name, fallback),
         video_size: contents.video_size,
         audio_size: contents.audio_size,
         video_codec: codec::value_of(video),
         audio_codec: codec::value_of(audio),
-        number: 0,
-        unknown_type: 0,
         name_source: name_source(name),
-        has_audio: bit_of(contents.audio),
+        has_audio: u8::from(contents.audio),
         has_video_codec: codec::presence_of(video),
         has_audio_codec: codec::presence_of(audio),
         video_kind: codec::video_number(video_kind),
         audio_kind: codec::audio_number(audio_kind),
+        ..FilmReply::default()
     }
 }
 
 // What a film holds, or why it is refused, with a fallback name of a length.
-pub fn film_reply(answer: Extracted, fallback: usize) -> FilmReply
+pub fn film_reply(answer: Result<Contents, Refusal>, fallback: usize) -> FilmReply
     ensures { result ≡ film_reply fallback answer }
 {
     match answer {
-        Extracted::Film(contents) => contents_reply(contents, fallback),
-        Extracted::Refused(refusal) => {
-            let cause = refusal.cause;
-            let beside = refusal::beside_of(cause);
+        Ok(contents) => contents_reply(contents, fallback),
+        Err(refusal) => {
+            let beside = refusal::beside_of(refusal.cause);
             FilmReply {
                 refused_at: refusal.place,
-                name_start: 0,
-                name_length: 0,
                 video_size: beside.video_size,
                 audio_size: beside.audio_size,
-                video_codec: 0,
-                audio_codec: 0,
-                number: refusal::number_of(cause),
+                number: refusal::number_of(refusal.cause),
                 unknown_type: beside.unknown_type,
-                name_source: 0,
-                has_audio: 0,
-                has_video_codec: 0,
-                has_audio_codec: 0,
-                video_kind: 0,
-                audio_kind: 0,
+                ..FilmReply::default()
             }
         }
     }

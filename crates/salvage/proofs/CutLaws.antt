@@ -1,5 +1,6 @@
 -- Where a container can be cut. A cut at a chunk start is walked to its end exactly when it holds what the chunks before it need; so the loop's answer
 -- is the last cut that is walked to its end. Assumes nothing.
+use Rattle.std.specs.Prelude.{Option, Some, None, Ok}
 use Prim.Native.Nat.{ℕ, ◌+◌, ◌≤◌, ◌<◌, max}
 use mathlib.Core.Path.{◌≡◌, refl, sym, ap, ◌∙◌}
 use mathlib.Core.List.{List}
@@ -14,7 +15,6 @@ use Rattle.laws.proofs.Side.{side}
 use Rattle.refusal.specs.declared.Refusal.{Refusal}
 use Rattle.reading.specs.declared.Applied.{Applied}
 use Rattle.chunk.specs.declared.Chunk.{Chunk}
-use Rattle.chunk.specs.declared.ChunkStep.TheVariants.{Found}
 use Rattle.chunk.specs.Chunks.{chunk_at}
 use Rattle.chunk.proofs.CaseLaws.{over}
 use Rattle.chunk.proofs.FoundLaws.{found}
@@ -23,8 +23,7 @@ use Rattle.walk.proofs.WalkLaws.{walk_over, walk_found, walk_refused}
 use Rattle.laws_prefix.specs.Needs.{need_of}
 use Rattle.laws_prefix.proofs.ChunkLaws.{refused_there}
 use Rattle.laws_prefix.proofs.Promises.{ChunkOfABeginning, ChunkCutOff}
-use Rattle.salvage.specs.declared.Fit.TheVariants.{UpTo}
-use Rattle.salvage.specs.Salvage.{Cut, up_to, nowhere, or_else, last_of, starts_of}
+use Rattle.salvage.specs.Salvage.{or_else, last_of, starts_of}
 use Rattle.salvage.specs.Fits.{fitted, fit_from}
 use Rattle.salvage.proofs.SearchLaws.{best_of}
 use Rattle.salvage.proofs.StepLaws.{Steps, stop, step}
@@ -67,7 +66,7 @@ module _ (s : List ℕ) (reading : Applied) where
       ap (λ (w : Walk). is_clean w.ending) (walk_over (take c s) reading c (sym (over (take c s) reading c (omega arith))))
 
   -- a chunk before the cut: the cut holds what it needs, and the walk goes on, or it does not
-  passes : (c p need : ℕ) (chunk : Chunk) → chunk_at s reading c ≡ Found chunk → c + 8 ≤ p → p ≤ length s
+  passes : (c p need : ℕ) (chunk : Chunk) → chunk_at s reading c ≡ Ok (Some chunk) → c + 8 ≤ p → p ≤ length s
       → (leb need p && ends p c) ≡ (leb (max need (need_of chunk)) p && ends p chunk.next)
   passes c p need chunk e h k =
       ⊎_elim
@@ -90,23 +89,23 @@ module _ (s : List ℕ) (reading : Applied) where
     here c need reached h = reached c (omega arith) h ∙ rw (ends_here c h) (and-true (leb need c))
 
     -- the best cut, by a place that is tried before the rest or after it
-    best_of_lem : (x : Cut) (t : Bool) (p best : ℕ) → best_of x (cond t p best) ≡ best_of (or_else x (cond t (up_to p) nowhere)) best
-    best_of_lem (up_to q) t p best = refl
-    best_of_lem nowhere true p best = refl
-    best_of_lem nowhere false p best = refl
+    best_of_lem : (x : Option ℕ) (t : Bool) (p best : ℕ) → best_of x (cond t p best) ≡ best_of (or_else x (cond t (Some p) None)) best
+    best_of_lem (Some q) t p best = refl
+    best_of_lem None true p best = refl
+    best_of_lem None false p best = refl
 
     pub loop_searches : {c : ℕ} {chunks : List Chunk} → Steps s reading c chunks (stopped refusal) → (need best : ℕ) → Reached c need
-        → fit_from need best chunks (stopped refusal) ≡ UpTo (best_of (last_of (λ p. ends p start) (starts_of chunks (stopped refusal))) best) refusal
+        → fit_from need best chunks (stopped refusal) ≡ Some (record { place = best_of (last_of (λ p. ends p start) (starts_of chunks (stopped refusal))) best; refusal = refusal })
     unfolding fit_from last_of starts_of
     loop_searches (stop {c} e) need best reached =
         let w = refused_there s reading c refusal e in
         let t : ends refusal.place start ≡ leb need refusal.place = rw w.0 (here c need reached (omega (arith, w.1))) in
-        rw t (ap (λ (p : ℕ). UpTo p refusal) (best_of_lem nowhere (leb need refusal.place) refusal.place best))
+        rw t (ap (λ (p : ℕ). Some (record { place = p; refusal = refusal })) (best_of_lem None (leb need refusal.place) refusal.place best))
     loop_searches (step {c} {chunk} {chunks} {ending} e rest) need best reached =
         let w = found s reading c chunk e in
         let t : ends chunk.start start ≡ leb need chunk.start = rw w.start (here c need reached (omega (arith, w.whole))) in
         let goes : Reached chunk.next (max need (need_of chunk)) =
         λ p h k. reached p (omega (arith, w.past)) k ∙ passes c p need chunk e (omega (arith, w.past)) k in
         rw (loop_searches rest (max need (need_of chunk)) (fitted need best chunk.start) goes, t)
-        (ap (λ (p : ℕ). UpTo p refusal)
+        (ap (λ (p : ℕ). Some (record { place = p; refusal = refusal }))
         (best_of_lem (last_of (λ p. ends p start) (starts_of chunks (stopped refusal))) (leb need chunk.start) chunk.start best))

@@ -1,8 +1,9 @@
 -- The promises of specs/Promises.antt, each under its name: what the search over rising places finds, and what it does not. Assumes nothing.
+use Rattle.std.specs.Prelude.{Option, Some, None, Result, Ok, Err}
 use Prim.Native.Nat.{ℕ, ◌+◌, ◌-◌, ◌≤◌, ◌<◌}
 use mathlib.Core.Logic.{◌⊎◌, inl, inr, ⊎_elim}
 use borrow.Author.Tests.{le-leb}
-use mathlib.Core.Path.{◌≡◌, refl, sym, ap, ◌∙◌}
+use mathlib.Core.Path.{◌≡◌, refl, sym, ap, ◌∙◌, subst}
 use mathlib.Core.List.{List, ◌∷◌, ◌++◌}
 use mathlib.Core.Bool.{Bool, true, false}
 use native.Mathlib.Omega.{arith}
@@ -19,14 +20,12 @@ use Rattle.walk.proofs.Promises.{RefusedByAChunk}
 use Rattle.chunk.specs.declared.Chunk.{Chunk}
 use Rattle.walk.specs.Walks.{Ending, clean, stopped}
 use Rattle.header.specs.declared.Header.{Header}
-use Rattle.header.specs.declared.HeaderAnswer.{HeaderAnswer}
-use Rattle.header.specs.declared.HeaderAnswer.TheVariants as answer
 use Rattle.header.specs.Headers.{header_of}
 use Rattle.film.specs.Films as films
 use Rattle.film.proofs.FilmLaws.{with_header}
-use Rattle.salvage.specs.declared.Salvaged.TheVariants.{Kept, Refused}
-use Rattle.salvage.specs.Salvage.{how, is_film, accepted, Cut, up_to, nowhere, last_of, starts_of, cut_as, ended_as, walk_of, after_header, salvage_from, salvage_of, kept_in}
+use Rattle.salvage.specs.Salvage.{how, is_film, accepted, last_of, starts_of, cut_as, ended_as, walk_of, after_header, salvage_from, salvage_of, kept_in}
 use Rattle.salvage.specs.Promises as promised
+use Rattle.salvage.specs.declared.Kept.{Kept}
 use Rattle.salvage.specs.Promises.{cuts_of}
 use Rattle.salvage.proofs.SearchLaws.{Rising, each_within, found_good, found_among, AtLeast, passing_found}
 use Rattle.salvage.proofs.StepLaws.{steps_of, starts_rise}
@@ -41,7 +40,7 @@ tried container p = accepted (take p container)
 -- what is kept of a container with this header: all of it, where the walk ends clean; else up to the last place that is accepted
 data From (container : List ℕ) (header : Header) : ℕ → ℕ → ℕ → Type 0 where
   whole : (walk_of container header).ending ≡ clean → From container header (length container) 0 0
-  cut : (refusal : Refusal) (p : ℕ) → (walk_of container header).ending ≡ stopped refusal → last_of (tried container) (cuts_of container header) ≡ up_to p
+  cut : (refusal : Refusal) (p : ℕ) → (walk_of container header).ending ≡ stopped refusal → last_of (tried container) (cuts_of container header) ≡ Some p
       → From container header p (length container - p) (number_of refusal.cause)
 
 module _ (container : List ℕ) (header : Header) where
@@ -49,45 +48,41 @@ module _ (container : List ℕ) (header : Header) where
   rise = starts_rise container _ (steps_of container _ header.start)
 
   module _ (kept dropped cause : ℕ) where
-    by_cut : (refusal : Refusal) → (walk_of container header).ending ≡ stopped refusal → (x : Cut) → last_of (tried container) (cuts_of container header) ≡ x
-        → cut_as container refusal x ≡ Kept kept dropped cause → From container header kept dropped cause
-    by_cut refusal f (up_to p) g e =
-        let a : p ≡ kept = cc in
-        let b : length container - p ≡ dropped = cc in
-        let c : number_of refusal.cause ≡ cause = cc in
-        rw (← a, ← b, ← c) (cut refusal p f g)
-    by_cut refusal f nowhere g e = let z : ◌≡◌ {A = ℕ} 0 1 = cc in absurd (omega arith)
+    by_cut : (refusal : Refusal) → (walk_of container header).ending ≡ stopped refusal → (x : Option ℕ) → last_of (tried container) (cuts_of container header) ≡ x
+        → cut_as container refusal x ≡ Ok (record { kept = kept; dropped = dropped; cause = cause }) → From container header kept dropped cause
+    by_cut refusal f (Some p) g e =
+        let same : ◌≡◌ {A = Kept} (record { kept = p; dropped = length container - p; cause = number_of refusal.cause }) (record { kept = kept; dropped = dropped; cause = cause }) = cc in
+        subst (λ (k : Kept). From container header k.kept k.dropped k.cause) same (cut refusal p f g)
+    by_cut refusal f None g e = let z : ◌≡◌ {A = ℕ} 0 1 = cc in absurd (omega arith)
 
-    by_ending : (ending : Ending) → (walk_of container header).ending ≡ ending → ended_as container (walk_of container header).chunks ending ≡ Kept kept dropped cause
+    by_ending : (ending : Ending) → (walk_of container header).ending ≡ ending → ended_as container (walk_of container header).chunks ending ≡ Ok (record { kept = kept; dropped = dropped; cause = cause })
         → From container header kept dropped cause
     by_ending clean f e =
-        let a : length container ≡ kept = cc in
-        let b : 0 ≡ dropped = cc in
-        let c : 0 ≡ cause = cc in
-        rw (← a, ← b, ← c) (whole f)
+        let same : ◌≡◌ {A = Kept} (record { kept = length container; dropped = 0; cause = 0 }) (record { kept = kept; dropped = dropped; cause = cause }) = cc in
+        subst (λ (k : Kept). From container header k.kept k.dropped k.cause) same (whole f)
     by_ending (stopped refusal) f e = by_cut refusal f (last_of (tried container) (starts_of (walk_of container header).chunks (stopped refusal))) (rw f refl) e
 
-    from_header : salvage_from container header ≡ Kept kept dropped cause → From container header kept dropped cause
+    from_header : salvage_from container header ≡ Ok (record { kept = kept; dropped = dropped; cause = cause }) → From container header kept dropped cause
     unfolding salvage_from
     from_header e = by_ending (walk_of container header).ending refl e
 
 -- an answer that keeps something has a header
 record Answered (container : List ℕ) (kept dropped cause : ℕ) : Type 0 where
   pub header : Header
-  pub read : header_of container how ≡ answer.Read header
+  pub read : header_of container how ≡ Ok header
   pub from : From container header kept dropped cause
 
-answered : (container : List ℕ) (kept dropped cause : ℕ) → salvage_of container ≡ Kept kept dropped cause → Answered container kept dropped cause
+answered : (container : List ℕ) (kept dropped cause : ℕ) → salvage_of container ≡ Ok (record { kept = kept; dropped = dropped; cause = cause }) → Answered container kept dropped cause
 unfolding salvage_of
 answered container kept dropped cause e = by_answer (header_of container how) refl e
   where
-    by_answer : (x : HeaderAnswer) → header_of container how ≡ x → after_header (salvage_from container) x ≡ Kept kept dropped cause → Answered container kept dropped cause
-    by_answer (answer.Read h) f g = record { header = h; read = f; from = from_header container h kept dropped cause g }
-    by_answer (answer.Refused refusal) f g = let z : ◌≡◌ {A = ℕ} 0 1 = cc in absurd (omega arith)
+    by_answer : (x : Result Header Refusal) → header_of container how ≡ x → after_header (salvage_from container) x ≡ Ok (record { kept = kept; dropped = dropped; cause = cause }) → Answered container kept dropped cause
+    by_answer (Ok h) f g = record { header = h; read = f; from = from_header container h kept dropped cause g }
+    by_answer (Err refusal) f g = let z : ◌≡◌ {A = ℕ} 0 1 = cc in absurd (omega arith)
 
 -- ---- what is kept
 
-kept_accepted : (container : List ℕ) (header : Header) → header_of container how ≡ answer.Read header → (kept dropped cause : ℕ) → From container header kept dropped cause → accepted (take kept container) ≡ true
+kept_accepted : (container : List ℕ) (header : Header) → header_of container how ≡ Ok header → (kept dropped cause : ℕ) → From container header kept dropped cause → accepted (take kept container) ≡ true
 kept_accepted container header read kept dropped cause (whole f) = ap accepted (take-length container) ∙ accepted_as_walked container header read ∙ ap is_clean f
 kept_accepted container header read kept dropped cause (cut refusal p f e) = (found_good (tried container) (rise container header) p e).passed
 
@@ -105,9 +100,9 @@ KeptAndDropped container kept dropped cause e =
     let a = answered container kept dropped cause e in
     sums container a.header kept dropped cause a.from
 
-ends_at : (container : List ℕ) (header : Header) → header_of container how ≡ answer.Read header → (kept dropped cause : ℕ) → From container header kept dropped cause
+ends_at : (container : List ℕ) (header : Header) → header_of container how ≡ Ok header → (kept dropped cause : ℕ) → From container header kept dropped cause
     → (kept ≡ length container)
-    ⊎ ((h : Header) × ((header_of container how ≡ answer.Read h) × ((before : List ℕ) × ((after : List ℕ) × (cuts_of container h ≡ before ++ kept ∷ after)))))
+    ⊎ ((h : Header) × ((header_of container how ≡ Ok h) × ((before : List ℕ) × ((after : List ℕ) × (cuts_of container h ≡ before ++ kept ∷ after)))))
 ends_at container header read kept dropped cause (whole f) = inl refl
 ends_at container header read kept dropped cause (cut refusal p f e) = inr (header, (read, found_among (tried container) (cuts_of container header) p e))
 
@@ -149,7 +144,7 @@ CauseIsOneOrNine container kept dropped cause e =
 -- ---- what is not
 
 -- a place that is accepted, of the walk's, is found, or one past it
-not_found : (container : List ℕ) (header : Header) (before : List ℕ) (p : ℕ) (after : List ℕ) → cuts_of container header ≡ before ++ p ∷ after → (x : Cut)
+not_found : (container : List ℕ) (header : Header) (before : List ℕ) (p : ℕ) (after : List ℕ) → cuts_of container header ≡ before ++ p ∷ after → (x : Option ℕ)
     → last_of (tried container) (cuts_of container header) ≡ x → (AtLeast p x → ⊥) → accepted (take p container) ≡ false
 not_found container header before p after s x e never = by_test (tried container p) refl
   where
@@ -162,7 +157,7 @@ not_found container header before p after s x e never = by_test (tried container
 no_longer : (container : List ℕ) (header : Header) (kept dropped cause : ℕ) → From container header kept dropped cause → (before : List ℕ) (p : ℕ) (after : List ℕ)
     → cuts_of container header ≡ before ++ p ∷ after → kept < p → accepted (take p container) ≡ false
 no_longer container header kept dropped cause (whole f) before p after s h = absurd (omega (arith, each_within before p after (rw s at (rise container header))))
-no_longer container header kept dropped cause (cut refusal q f e) before p after s h = not_found container header before p after s (up_to q) e (λ k. omega arith)
+no_longer container header kept dropped cause (cut refusal q f e) before p after s h = not_found container header before p after s (Some q) e (λ k. omega arith)
 
 pub NoLongerIsAccepted : promised.NoLongerIsAccepted
 NoLongerIsAccepted container kept dropped cause header before p after e read s h =
@@ -176,22 +171,22 @@ pub AcceptedComesBackWhole : promised.AcceptedComesBackWhole
 unfolding accepted films.film_of salvage_of salvage_from
 AcceptedComesBackWhole container e = by_answer (header_of container how) refl e
   where
-    by_end : (chunks : List Chunk) (ending : Ending) → is_clean ending ≡ true → ended_as container chunks ending ≡ Kept (length container) 0 0
+    by_end : (chunks : List Chunk) (ending : Ending) → is_clean ending ≡ true → ended_as container chunks ending ≡ Ok (record { kept = length container; dropped = 0; cause = 0 })
     by_end chunks clean f = refl
     by_end chunks (stopped refusal) f = let z : ◌≡◌ {A = ℕ} 0 1 = cc in absurd (omega arith)
 
-    by_answer : (x : HeaderAnswer) → header_of container how ≡ x → is_film (films.after_header (films.film_from container how) x) ≡ true
-        → after_header (salvage_from container) x ≡ Kept (length container) 0 0
-    by_answer (answer.Read header) f g = by_end (walk_of container header).chunks (walk_of container header).ending (sym (accepted_as_walked container header f) ∙ e)
-    by_answer (answer.Refused refusal) f g = let z : ◌≡◌ {A = ℕ} 0 1 = cc in absurd (omega arith)
+    by_answer : (x : Result Header Refusal) → header_of container how ≡ x → is_film (films.after_header (films.film_from container how) x) ≡ true
+        → after_header (salvage_from container) x ≡ Ok (record { kept = length container; dropped = 0; cause = 0 })
+    by_answer (Ok header) f g = by_end (walk_of container header).chunks (walk_of container header).ending (sym (accepted_as_walked container header f) ∙ e)
+    by_answer (Err refusal) f g = let z : ◌≡◌ {A = ℕ} 0 1 = cc in absurd (omega arith)
 
 -- the film of a container with this header, by how the walk ended
-film_is : (container : List ℕ) (header : Header) → header_of container how ≡ answer.Read header → (ending : Ending) → (walk_of container header).ending ≡ ending
+film_is : (container : List ℕ) (header : Header) → header_of container how ≡ Ok header → (ending : Ending) → (walk_of container header).ending ≡ ending
     → films.film_of container how ≡ films.ended_as header (applied_to header.audio how) (walk_of container header).chunks ending
 unfolding films.film_from
 film_is container header read ending e = sym (with_header container how header read) ∙ rw e
 
-by_film : (container : List ℕ) (header : Header) → header_of container how ≡ answer.Read header → (kept dropped cause : ℕ) → From container header kept dropped cause → (refusal : Refusal)
+by_film : (container : List ℕ) (header : Header) → header_of container how ≡ Ok header → (kept dropped cause : ℕ) → From container header kept dropped cause → (refusal : Refusal)
     → films.film_of container how ≡ films.refused refusal → cause ≡ number_of refusal.cause
 by_film container header read kept dropped cause (whole f) refusal e = let g = sym (film_is container header read clean f) ∙ e in let z : ◌≡◌ {A = ℕ} 0 1 = cc in absurd (omega arith)
 by_film container header read kept dropped cause (cut r p f k) refusal e =
@@ -214,15 +209,15 @@ module _ (container : List ℕ) (refusal : Refusal) (header : Header) where
       (refusal ≡ record { cause = NoBeginning; place = 0 })
       × ((before : List ℕ) (p : ℕ) (after : List ℕ) → cuts_of container header ≡ before ++ p ∷ after → accepted (take p container) ≡ false)
 
-  by_none : (r : Refusal) (x : Cut) → last_of (tried container) (cuts_of container header) ≡ x → cut_as container r x ≡ Refused refusal → NoneAccepted
-  by_none r (up_to p) g e = let z : ◌≡◌ {A = ℕ} 0 1 = cc in absurd (omega arith)
-  by_none r nowhere g e = (cc, λ before p after s. not_found container header before p after s nowhere g (λ k. k))
+  by_none : (r : Refusal) (x : Option ℕ) → last_of (tried container) (cuts_of container header) ≡ x → cut_as container r x ≡ Err refusal → NoneAccepted
+  by_none r (Some p) g e = let z : ◌≡◌ {A = ℕ} 0 1 = cc in absurd (omega arith)
+  by_none r None g e = (cc, λ before p after s. not_found container header before p after s None g (λ k. k))
 
-  by_walk : (ending : Ending) → (walk_of container header).ending ≡ ending → ended_as container (walk_of container header).chunks ending ≡ Refused refusal → NoneAccepted
+  by_walk : (ending : Ending) → (walk_of container header).ending ≡ ending → ended_as container (walk_of container header).chunks ending ≡ Err refusal → NoneAccepted
   by_walk clean f e = let z : ◌≡◌ {A = ℕ} 0 1 = cc in absurd (omega arith)
   by_walk (stopped r) f e = by_none r (last_of (tried container) (starts_of (walk_of container header).chunks (stopped r))) (rw f refl) e
 
-  refused_by_walk : salvage_from container header ≡ Refused refusal → NoneAccepted
+  refused_by_walk : salvage_from container header ≡ Err refusal → NoneAccepted
   unfolding salvage_from
   refused_by_walk e = by_walk (walk_of container header).ending refl e
 

@@ -1,4 +1,5 @@
 -- A walk, step by step: where its chunks start, and that these places rise and lie within the container. Assumes nothing.
+use Rattle.std.specs.Prelude.{Option, Some, None, Result, Ok, Err}
 use Prim.Native.Nat.{ℕ, zero, suc, ◌-◌, ◌≤◌}
 use mathlib.Core.Path.{◌≡◌, refl, sym}
 use mathlib.Core.List.{List, [], ◌∷◌}
@@ -7,8 +8,6 @@ use lib.ListN.{length}
 use Rattle.refusal.specs.declared.Refusal.{Refusal}
 use Rattle.reading.specs.declared.Applied.{Applied}
 use Rattle.chunk.specs.declared.Chunk.{Chunk}
-use Rattle.chunk.specs.declared.ChunkStep.{ChunkStep}
-use Rattle.chunk.specs.declared.ChunkStep.TheVariants.{Over, Found, Refused}
 use Rattle.chunk.specs.Chunks.{chunk_at}
 use Rattle.chunk.proofs.CaseLaws as cases
 use Rattle.chunk.proofs.FoundLaws.{found}
@@ -19,9 +18,9 @@ use Rattle.salvage.proofs.SearchLaws.{Rising, none, more}
 
 -- the chunks from c on, and how they end
 pub data Steps (container : List ℕ) (reading : Applied) : ℕ → List Chunk → Ending → Type 0 where
-  over : {c : ℕ} → chunk_at container reading c ≡ Over → Steps container reading c [] clean
-  stop : {c : ℕ} {refusal : Refusal} → chunk_at container reading c ≡ Refused refusal → Steps container reading c [] (stopped refusal)
-  step : {c : ℕ} {chunk : Chunk} {chunks : List Chunk} {ending : Ending} → chunk_at container reading c ≡ Found chunk → Steps container reading chunk.next chunks ending
+  over : {c : ℕ} → chunk_at container reading c ≡ Ok None → Steps container reading c [] clean
+  stop : {c : ℕ} {refusal : Refusal} → chunk_at container reading c ≡ Err refusal → Steps container reading c [] (stopped refusal)
+  step : {c : ℕ} {chunk : Chunk} {chunks : List Chunk} {ending : Ending} → chunk_at container reading c ≡ Ok (Some chunk) → Steps container reading chunk.next chunks ending
       → Steps container reading c (chunk ∷ chunks) ending
 
 -- places that rise from q on rise from each place before it
@@ -33,11 +32,11 @@ module _ (container : List ℕ) (reading : Applied) where
   abbrev StepsOf : ℕ → Walk → Type 0
   StepsOf c walk = Steps container reading c walk.chunks walk.ending
 
-  by_step : (n c : ℕ) → ((d : ℕ) → length container - d ≤ n → StepsOf d (walk_for container reading n d)) → length container - c ≤ suc n → (x : ChunkStep) → chunk_at container reading c ≡ x
+  by_step : (n c : ℕ) → ((d : ℕ) → length container - d ≤ n → StepsOf d (walk_for container reading n d)) → length container - c ≤ suc n → (x : Result (Option Chunk) Refusal) → chunk_at container reading c ≡ x
       → StepsOf c (go_on x (walk_for container reading n))
-  by_step n c rest h Over e = over e
-  by_step n c rest h (Found chunk) e = let w = found container reading c chunk e in step e (rest chunk.next (omega (arith, w.whole, w.past)))
-  by_step n c rest h (Refused refusal) e = stop e
+  by_step n c rest h (Ok None) e = over e
+  by_step n c rest h (Ok (Some chunk)) e = let w = found container reading c chunk e in step e (rest chunk.next (omega (arith, w.whole, w.past)))
+  by_step n c rest h (Err refusal) e = stop e
 
   by_count : (n c : ℕ) → length container - c ≤ n → StepsOf c (walk_for container reading n c)
   unfolding walk_for

@@ -1,5 +1,5 @@
 -- No second answer meets a contract of this crate: what a caller learns makes two results equal. Assumes nothing.
-use mathlib.Core.Path.{◌≡◌}
+use Rattle.std.proofs.Common.{◌≡◌}
 use Rattle.laws.proofs.OneAnswer.{no_second_answer}
 use Rattle.seek.proofs.entry.Reads as entry
 use Rattle.seek.proofs.seek.Reads as seek

@@ -1,6 +1,5 @@
 -- What a jump promises of any list of entries. Each is proved under the same name in proofs/Promises.antt.
-use Rattle.std.specs.Prelude.{ℕ, ◌-◌, ◌^◌, ◌≤◌, ◌<◌, ◌≡◌, List, length}
-use Rattle.seek.specs.declared.Sought.TheVariants.{At}
+use Rattle.std.specs.Prelude.{ℕ, ◌-◌, ◌^◌, ◌≤◌, ◌<◌, ◌≡◌, List, length, Some}
 use Rattle.seek.specs.Entries.{place_at, chunk_in, length_at}
 use Rattle.seek.specs.Seeking.{halved, begun_by, sought_in}
 
@@ -30,4 +29,4 @@ pub record Answers (index : List (List ℕ)) (n chunk offset i : ℕ) : Type 0 w
 -- than the offset.
 abbrev pub EmptyPayloadsNeverAnswer : Type 0
 EmptyPayloadsNeverAnswer =
-    (index : List (List ℕ)) (n chunk offset : ℕ) → sought_in index n ≡ At chunk offset → (0 < begun_by index n) × Answers index n chunk offset (begun_by index n - 1)
+    (index : List (List ℕ)) (n chunk offset : ℕ) → sought_in index n ≡ Some (record { chunk = chunk; offset = offset }) → (0 < begun_by index n) × Answers index n chunk offset (begun_by index n - 1)

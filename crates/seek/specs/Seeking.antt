@@ -1,8 +1,7 @@
 -- Request 8: "Asking for stream byte n gives its chunk's start and offset in the payload, or "past the end"". Any list of entries has an answer.
-use Rattle.std.specs.Prelude.{ℕ, zero, suc, ◌+◌, ◌-◌, ◌/◌, List, cond, length, eqb, ltb, leb}
+use Rattle.std.specs.Prelude.{ℕ, zero, suc, ◌+◌, ◌-◌, ◌/◌, List, cond, length, eqb, ltb, leb, Option, Some, None}
 use Rattle.seek.specs.declared.Span.{Span}
 use Rattle.seek.specs.declared.Sought.{Sought}
-use Rattle.seek.specs.declared.Sought.TheVariants.{At, PastTheEnd}
 use Rattle.seek.specs.declared.SeekReply.{SeekReply}
 use Rattle.seek.specs.Entries.{place_at, chunk_in, length_at}
 
@@ -24,14 +23,14 @@ unfoldable pub begun_by : List (List ℕ) → ℕ → ℕ
 begun_by index n = halved index n (length index) (record { low = 0; count = length index })
 
 -- byte n in the payload of the entry at a position: an entry answers for the bytes of its payload and for no others
-abbrev pub in_entry : List (List ℕ) → ℕ → ℕ → Sought
-in_entry index n i = cond (ltb (n - place_at index i) (length_at index i)) (At (chunk_in index i) (n - place_at index i)) PastTheEnd
+abbrev pub in_entry : List (List ℕ) → ℕ → ℕ → Option Sought
+in_entry index n i = cond (ltb (n - place_at index i) (length_at index i)) (Some (record { chunk = chunk_in index i; offset = n - place_at index i })) None
 
 -- the last entry that begins at or before byte n answers
-unfoldable pub sought_in : List (List ℕ) → ℕ → Sought
-sought_in index n = cond (eqb (begun_by index n) 0) PastTheEnd (in_entry index n (begun_by index n - 1))
+unfoldable pub sought_in : List (List ℕ) → ℕ → Option Sought
+sought_in index n = cond (eqb (begun_by index n) 0) None (in_entry index n (begun_by index n - 1))
 
 -- the answer as C reads it
-abbrev pub seek_reply : Sought → SeekReply
-seek_reply (At start within) = record { chunk = start; offset = within; found = 1 }
-seek_reply PastTheEnd = record { chunk = 0; offset = 0; found = 0 }
+abbrev pub seek_reply : Option Sought → SeekReply
+seek_reply (Some place) = record { chunk = place.chunk; offset = place.offset; found = 1 }
+seek_reply None = record { chunk = 0; offset = 0; found = 0 }

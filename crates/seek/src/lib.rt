@@ -15,21 +15,22 @@ pub struct Span {
 
 // Where a byte of the stream stands: the start of its chunk and its offset in that chunk's payload.
 #[derive(Clone, Copy)]
-pub enum Sought {
-    At { chunk: u64, offset: u64 },
-    PastTheEnd,
+pub struct Sought {
+    pub chunk: u64,
+    pub offset: u64,
 }
 
 // The answer as C reads it. Past the end all are 0.
 #[repr(C)]
-#[derive(Clone, Copy)]
+#[derive(Clone, Copy, Default)]
 pub struct SeekReply {
     pub chunk: u64,
     pub offset: u64,
     pub found: u8,
 }
 
-// An entry of an index: where the payload begins in the stream, where its chunk starts, how long the payload is.
+// An entry of an index: where the payload begins in the stream, where its chunk starts, how long the payload is. It is three
+// numbers in a row, as C lays out `usm_index_entry`.
 pub fn entry(place: u64, chunk: u64, length: u64) -> [u64; 3]
     ensures { result ≡ entry_of place chunk length }
 {
@@ -37,6 +38,7 @@ pub fn entry(place: u64, chunk: u64, length: u64) -> [u64; 3]
 }
 
 // The half of a span in which the first entry lies that begins after a byte.
+#[tactic(auto, unfolding(crate::specs::Seeking::half_of))]
 fn half_of(index: &[[u64; 3]], byte: u64, span: Span) -> Span
     requires { (0 < span.count) × (span.low + span.count ≤ length index.now) }
     ensures { result ≡ half_of index.now byte span }
@@ -55,7 +57,8 @@ fn half_of(index: &[[u64; 3]], byte: u64, span: Span) -> Span
     }
 }
 
-// How many entries begin at or before a byte, found by halving. The last of them does begin there.
+// How many entries begin at or before a byte, found by halving. The last of them does begin there. `partition_point` promises
+// nothing of entries that are not in order, and `sought_in` says what any slice of entries answers.
 fn begun_by(index: &[[u64; 3]], byte: u64) -> usize
     ensures { (result ≡ begun_by index.now byte) × (result ≤ length index.now) × (0 < result → place_at index.now (result - 1) ≤ byte) }
 {
@@ -64,45 +67,37 @@ fn begun_by(index: &[[u64; 3]], byte: u64) -> usize
         count: index.len(),
     };
     while 0 < span.count {
-        let half = half_of(index, byte, span);
-        span = half;
+        span = half_of(index, byte, span);
     }
     span.low
 }
 
 // Where a byte of the stream stands, by an index. Any slice of entries has an answer, in some twenty steps for a million.
-pub fn seek(index: &[[u64; 3]], byte: u64) -> Sought
+#[tactic(auto, unfolding(crate::specs::Seeking::sought_in))]
+pub fn seek(index: &[[u64; 3]], byte: u64) -> Option<Sought>
     ensures { result ≡ sought_in index.now byte }
 {
-    let begun = begun_by(index, byte);
-    if begun == 0 {
-        return Sought::PastTheEnd;
-    }
-    let last = begun - 1;
+    let last = begun_by(index, byte).checked_sub(1)?;
     let offset = byte - index[last][0];
     if offset < index[last][2] {
-        return Sought::At {
+        return Some(Sought {
             chunk: index[last][1],
             offset,
-        };
+        });
     }
-    Sought::PastTheEnd
+    None
 }
 
 // An answer as C reads it.
-pub fn seek_reply(answer: Sought) -> SeekReply
+pub fn seek_reply(answer: Option<Sought>) -> SeekReply
     ensures { result ≡ seek_reply answer }
 {
     match answer {
-        Sought::At { chunk, offset } => SeekReply {
-            chunk,
-            offset,
+        Some(place) => SeekReply {
+            chunk: place.chunk,
+            offset: place.offset,
             found: 1,
         },
-        Sought::PastTheEnd => SeekReply {
-            chunk: 0,
-            offset: 0,
-            found: 0,
-        },
+        None => SeekReply::default(),
     }
 }

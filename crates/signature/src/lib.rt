@@ -2,7 +2,7 @@
 #![tactic(auto)]
 
 ghost use Rattle.std.specs.Prelude.{◌≡◌};
-ghost use Rattle.signature.specs.Signatures.{same_bytes, stands_at};
+ghost use Rattle.signature.specs.Signatures.{stands_at};
 
 // `CRID`, which a container begins with.
 pub const CRID: usize = 0x43524944;
@@ -19,26 +19,10 @@ pub const LETTERS: usize = 4;
 // Where a block has its table or marker, and a chunk its payload or marker.
 pub const INSIDE: usize = 0x20;
 
-// Whether two slices hold the same bytes.
-fn same_bytes(some: &[u8], others: &[u8]) -> bool
-    ensures { result ≡ same_bytes some.now others.now }
-{
-    if some.len() != others.len() {
-        return false;
-    }
-    let mut i = 0;
-    while i < some.len() {
-        if some[i] != others[i] {
-            return false;
-        }
-        i += 1;
-    }
-    true
-}
-
 // Whether a marker stands whole at a place.
+#[tactic(auto, using(crate::proofs::SameLaws::equal_slices))]
 pub fn stands_at(marker: &[u8], bytes: &[u8], place: usize) -> bool
     ensures { result ≡ stands_at marker.now bytes.now place }
 {
-    same_bytes(part::part_at(bytes, place, marker.len()), marker)
+    part::part_at(bytes, place, marker.len()) == marker
 }

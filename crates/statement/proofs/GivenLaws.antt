@@ -1,4 +1,6 @@
 -- What is known of a statement that was not refused: its tenants are not bad, and the lines given are those of the tenants in rising order. Assumes nothing.
+use Rattle.std.specs.Prelude.{Result, Ok}
+use Rattle.refusal.specs.declared.Refusal.{Refusal}
 use Prim.Native.Nat.{ℕ, zero, suc, ◌+◌, ◌≤◌, ◌<◌}
 use mathlib.Core.Path.{◌≡◌, refl, sym, ap, ap₂, ◌∙◌}
 use mathlib.Core.Bool.{Bool, true, false, cond, ◌||◌}
@@ -12,8 +14,6 @@ use lib.Dec.{ltb, eqb}
 use borrow.Author.Tests.{ltb-false}
 use Rattle.refusal.specs.declared.Cause.TheVariants.{TooLong, ShortList, BadTenants}
 use Rattle.film.specs.Films.{Film, film, refused}
-use Rattle.list.specs.declared.Listed.{Listed}
-use Rattle.list.specs.declared.Listed.TheVariants.{Count}
 use Rattle.list.specs.declared.ListReply.{ListReply}
 use Rattle.list.specs.Listing.{list_reply}
 use Rattle.list.proofs.ReplyLaws.{counted}
@@ -26,18 +26,18 @@ use Rattle.statement.specs.Statements.{film_in, refused_by, stated_in, stated_of
 use Rattle.statement.specs.Promises.{lines_given, Answered}
 
 -- an answer without a refusal is a count
-count_of : (answer : Listed) → (list_reply answer).number ≡ 0 → (n : ℕ) × (answer ≡ Count n)
+count_of : (answer : Result ℕ Refusal) → (list_reply answer).number ≡ 0 → (n : ℕ) × (answer ≡ Ok n)
 count_of answer e = ((list_reply answer).count, counted answer e)
 
 -- and every test was passed
-pub all_passed : (long bad : Bool) (room count n : ℕ) (f : Film) → cond long (refused_by TooLong) (cond bad (refused_by BadTenants) (stated_in room count f)) ≡ Count n
+pub all_passed : (long bad : Bool) (room count n : ℕ) (f : Film) → cond long (refused_by TooLong) (cond bad (refused_by BadTenants) (stated_in room count f)) ≡ Ok n
     → (bad ≡ false) × (n ≡ count) × (count ≤ room)
 all_passed true bad room count n f e = let z : ◌≡◌ {A = ℕ} 0 1 = cc in absurd (omega arith)
 all_passed false true room count n f e = let z : ◌≡◌ {A = ℕ} 0 1 = cc in absurd (omega arith)
 all_passed false false room count n (refused refusal) e = let z : ◌≡◌ {A = ℕ} 0 1 = cc in absurd (omega arith)
 all_passed false false room count n (film header applied chunks) e = by_room (ltb room count) refl e
   where
-    by_room : (b : Bool) → ltb room count ≡ b → cond b (refused_by (ShortList count)) (Count count) ≡ Count n → (false ≡ false) × (n ≡ count) × (count ≤ room)
+    by_room : (b : Bool) → ltb room count ≡ b → cond b (refused_by (ShortList count)) (Ok count) ≡ Ok n → (false ≡ false) × (n ≡ count) × (count ≤ room)
     by_room true l e = let z : ◌≡◌ {A = ℕ} 0 1 = cc in absurd (omega arith)
     by_room false l e = (refl, cc, ltb-false room count l)
 
@@ -58,11 +58,11 @@ module _ (container : List ℕ) (tenants lines lines' : List (List ℕ)) (r : Li
   abbrev pub size_here : ℕ
   size_here = copy_of (film_in container)
 
-  pub passed : (are_bad tenants ≡ false) × (stated_of container tenants (length lines) ≡ Count (length tenants)) × (length tenants ≤ length lines)
+  pub passed : (are_bad tenants ≡ false) × (stated_of container tenants (length lines) ≡ Ok (length tenants)) × (length tenants ≤ length lines)
   passed =
       let n = count_of (stated_of container tenants (length lines)) (ap (λ (r : ListReply). r.number) (sym a.stated.0) ∙ a.accepted) in
       let all = all_passed (ltb 0x40000000 (length container)) (are_bad tenants) (length lines) (length tenants) n.0 (film_in container) n.1 in
-      (all.0, n.1 ∙ ap Count all.1, all.2)
+      (all.0, n.1 ∙ ap Ok all.1, all.2)
 
   pub no_two : Distinct tenants
   no_two = distinct tenants (last_false (eqb (length tenants) 0) (ltb 16 (length tenants)) (repeated tenants) passed.0)

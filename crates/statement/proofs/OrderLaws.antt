@@ -1,6 +1,7 @@
 -- What extraction with room for everything says of a container is what a statement goes by, so its refusals can be told in their order. Assumes nothing.
-use Prim.Native.Nat.{ℕ, ◌+◌, ◌≤◌, ◌<◌}
-use mathlib.Core.Path.{◌≡◌, refl, sym, ap, ◌∙◌}
+use Rattle.std.specs.Prelude.{Option, Ok, Err}
+use Prim.Native.Nat.{ℕ, ◌≤◌}
+use mathlib.Core.Path.{◌≡◌, refl, ap, ◌∙◌}
 use mathlib.Core.Bool.{Bool, true, false, cond, ◌||◌}
 use mathlib.Core.List.{List}
 use native.Mathlib.Omega.{arith}
@@ -9,43 +10,37 @@ use lib.Dec.{ltb}
 use borrow.Author.Tests.{lt-ltb, le-ltb}
 use Rattle.refusal.specs.declared.Refusal.{Refusal}
 use Rattle.refusal.specs.declared.Cause.TheVariants.{TooLong, BadTenants}
-use Rattle.refusal.specs.Numbers.{number_of}
 use Rattle.reading.specs.declared.AudioChoice.TheVariants.{Chosen}
 use Rattle.reading.specs.Choices.{as_original}
-use Rattle.unmasking.specs.declared.Key.{Key}
 use Rattle.unmasking.specs.Unmasking.{unmasking_of}
 use Rattle.walk.specs.Walks.{walk_from, video_size, audio_size}
 use Rattle.film.specs.Films.{Film, film, refused, survey_of}
 use Rattle.extract.specs.declared.Contents.{Contents}
-use Rattle.extract.specs.declared.Extracted.TheVariants as extracted
-use Rattle.extract.specs.Streams.{video_stream, audio_stream}
 use Rattle.extract.specs.Extraction.{contents_of}
 use Rattle.extract.proofs.AnswerLaws.{sizes_within, extracted_film}
 use Rattle.extract.proofs.Promises.{OutputsMayBeSizedByTheFile}
-use Rattle.list.specs.declared.Listed.{Listed}
-use Rattle.list.specs.declared.Listed.TheVariants.{Count, Refused}
 use Rattle.list.specs.declared.ListReply.{ListReply}
-use Rattle.list.specs.Listing.{counted_in, list_reply}
+use Rattle.list.specs.Listing.{counted_in}
 use Rattle.tenants.specs.Tenants.{are_bad}
 use Rattle.tenants.specs.Promises.{OneToSixteen}
 use Rattle.tenants.proofs.Promises.{GoodExactlyWhenDifferent}
-use Rattle.statement.specs.Statements.{film_in, refused_by, stated_in, stated_of, Stated}
-use Rattle.statement.specs.Promises.{Answered, Unpacked, Walked, RefusedBy, InOrder}
+use Rattle.statement.specs.Statements.{film_in, refused_by, stated_in, Stated}
+use Rattle.statement.specs.Promises.{Answered, Unpacked, Walked, InOrder}
 use Rattle.statement.proofs.GivenLaws.{passed}
 
 -- ---- a film, or not
 
 -- nothing is counted where the walk refuses
-never_counted : (long bad : Bool) (refusal : Refusal) (n : ℕ) → cond long (refused_by TooLong) (cond bad (refused_by BadTenants) (Refused refusal)) ≡ Count n → ⊥
+never_counted : (long bad : Bool) (refusal : Refusal) (n : ℕ) → cond long (refused_by TooLong) (cond bad (refused_by BadTenants) (Err refusal)) ≡ Ok n → ⊥
 never_counted true bad refusal n e = let z : ◌≡◌ {A = ℕ} 0 1 = cc in omega arith
 never_counted false true refusal n e = let z : ◌≡◌ {A = ℕ} 0 1 = cc in omega arith
 never_counted false false refusal n e = let z : ◌≡◌ {A = ℕ} 0 1 = cc in omega arith
 
 -- a film is unpacked where there is room
-abbrev Unpacks : List ℕ → Key → List ℕ → List ℕ → Type 0
+abbrev Unpacks : List ℕ → Option ℕ → List ℕ → List ℕ → Type 0
 Unpacks container key video audio = (contents : Contents) × (video_after : List ℕ) × (audio_after : List ℕ) × Unpacked container key video audio contents video_after audio_after
 
-pub every_key : (container : List ℕ) (tenants lines lines' : List (List ℕ)) (r : ListReply) (key : Key) (video audio : List ℕ) → Answered container tenants lines r lines'
+pub every_key : (container : List ℕ) (tenants lines lines' : List (List ℕ)) (r : ListReply) (key : Option ℕ) (video audio : List ℕ) → Answered container tenants lines r lines'
     → length container ≤ length video → length container ≤ length audio → Unpacks container key video audio
 every_key container tenants lines lines' r key video audio a v w = by_film (film_in container) refl
   where
@@ -67,29 +62,29 @@ every_key container tenants lines lines' r key video audio a v w = by_film (film
         absurd (never_counted (ltb 0x40000000 (length container)) (are_bad tenants) refusal (length tenants) (rw f at (passed container tenants lines lines' r a).1))
 
 -- what extraction answers is what the walk says
-walked_refused : (container : List ℕ) (refusal : Refusal) → Walked container (extracted.Refused refusal) → film_in container ≡ refused refusal
+walked_refused : (container : List ℕ) (refusal : Refusal) → Walked container (Err refusal) → film_in container ≡ refused refusal
 walked_refused container refusal w = by_film (film_in container) refl
   where
     by_film : (f : Film) → film_in container ≡ f → film_in container ≡ refused refusal
     by_film (film header applied chunks) f =
-        let q : extracted.Refused refusal ≡ extracted.Film (contents_of header (video_size chunks) (audio_size chunks)) =
-        OutputsMayBeSizedByTheFile container (as_original Chosen) w.key w.video w.audio w.video_after w.audio_after (extracted.Refused refusal) header applied
+        let q : Err refusal ≡ Ok (contents_of header (video_size chunks) (audio_size chunks)) =
+        OutputsMayBeSizedByTheFile container (as_original Chosen) w.key w.video w.audio w.video_after w.audio_after (Err refusal) header applied
         (length chunks) (video_size chunks) (audio_size chunks) w.video_room w.audio_room w.answers (ap survey_of f) in
         let z : ◌≡◌ {A = ℕ} 0 1 = cc in
         absurd (omega arith)
     by_film (refused other) f =
-        let q : extracted.Refused refusal ≡ extracted.Refused other = rw f at w.answers.0 in
+        let q : Err refusal ≡ Err other = rw f at w.answers.0 in
         let same : other ≡ refusal = cc in
         f ∙ ap refused same
 
 -- the answer on a film
-walked_film : (container : List ℕ) (contents : Contents) → Walked container (extracted.Film contents) → (room count : ℕ) → stated_in room count (film_in container) ≡ counted_in room count
+walked_film : (container : List ℕ) (contents : Contents) → Walked container (Ok contents) → (room count : ℕ) → stated_in room count (film_in container) ≡ counted_in room count
 walked_film container contents w room count = by_film (film_in container) refl
   where
     by_film : (f : Film) → film_in container ≡ f → stated_in room count (film_in container) ≡ counted_in room count
     by_film (film header applied chunks) f = rw f
     by_film (refused refusal) f =
-        let q : extracted.Film contents ≡ extracted.Refused refusal = rw f at w.answers.0 in
+        let q : Ok contents ≡ Err refusal = rw f at w.answers.0 in
         let z : ◌≡◌ {A = ℕ} 0 1 = cc in
         absurd (omega arith)
 

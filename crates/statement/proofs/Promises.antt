@@ -1,5 +1,7 @@
 -- The promises of specs/Promises.antt, each under its name. The lines are those of the tenants in rising order, so what is known of groups and shares is
 -- known of the lines. Assumes nothing.
+use Rattle.std.specs.Prelude.{Option, Result, Ok, Err}
+use Rattle.refusal.specs.declared.Refusal.{Refusal}
 use Prim.Native.Nat.{ℕ, ◌+◌, ◌≤◌, ◌<◌}
 use mathlib.Core.Path.{◌≡◌, refl, sym, ap, ap₂, ◌∙◌}
 use mathlib.Core.Bool.{Bool, true, false, cond}
@@ -10,16 +12,12 @@ use lib.Dec.{ltb, eqb}
 use Rattle.refusal.specs.declared.Cause.TheVariants.{TooLong, BadTenants}
 use Rattle.reading.specs.declared.AudioChoice.TheVariants.{Chosen}
 use Rattle.reading.specs.Choices.{as_original}
-use Rattle.unmasking.specs.declared.Key.{Key}
 use Rattle.film.specs.Films.{Film, film, refused}
 use Rattle.extract.specs.declared.Contents.{Contents}
-use Rattle.extract.specs.declared.Extracted.TheVariants as extracted
 use Rattle.extract.proofs.ResultLaws.{both_hold}
 use Rattle.extract.proofs.Promises.{SizesAreTheStreams}
 use Rattle.film.specs.Films.{survey_of}
 use Rattle.walk.specs.Walks.{video_size, audio_size}
-use Rattle.list.specs.declared.Listed.{Listed}
-use Rattle.list.specs.declared.Listed.TheVariants.{Count, Refused}
 use Rattle.list.specs.Listing.{list_reply, filled_by}
 use Rattle.list.proofs.PastLaws.{past_count}
 use Rattle.key_shown.specs.KeyBits.{shown_bits}
@@ -103,7 +101,7 @@ sum_of bits size group tenants (t ∷ l) =
     ap (λ (n : ℕ). cond (eqb (group_of bits tenants t) group) (share_of bits size tenants t) 0 + n) (sum_of bits size group tenants l)
 
 -- the size of a copy is what extraction says of both streams
-copy_size : (container : List ℕ) (key : Key) (video audio video_after audio_after : List ℕ) (contents : Contents) → Unpacked container key video audio contents video_after audio_after
+copy_size : (container : List ℕ) (key : Option ℕ) (video audio video_after audio_after : List ℕ) (contents : Contents) → Unpacked container key video audio contents video_after audio_after
     → copy_of (film_in container) ≡ contents.video_size + contents.audio_size
 copy_size container key video audio video_after audio_after contents e = by_film (film_in container) refl
   where
@@ -113,7 +111,7 @@ copy_size container key video audio video_after audio_after contents e = by_film
         let sizes = rw f at (SizesAreTheStreams container (as_original Chosen) key header applied (length chunks) (video_size chunks) (audio_size chunks) (ap survey_of f)) in
         ap copy_of f ∙ ap₂ (λ (m n : ℕ). m + n) (sym sizes.0 ∙ hold.0.long) (sym sizes.1 ∙ hold.1.long)
     by_film (refused refusal) f =
-        let q : extracted.Film contents ≡ extracted.Refused refusal = rw f at e.0 in
+        let q : Ok contents ≡ Err refusal = rw f at e.0 in
         let z : ◌≡◌ {A = ℕ} 0 1 = cc in
         absurd (omega arith)
 
@@ -168,19 +166,19 @@ OrderMovesNoLine container tenants tenants' lines lines_after lines_after' r r' 
     λ good. perm_lines p (shown_bits f) (copy_of f) (distinct tenants (last_false (eqb (length tenants) 0) (ltb 16 (length tenants)) (repeated tenants) good)) in (
       e.0 ∙ ap list_reply same ∙ sym e'.0,
       e.1 ∙ same_filled long (are_bad tenants) (length lines) (length tenants) f lines (lines_of f tenants) (lines_of f tenants') lines_same
-          ∙ ap (λ (answer : Listed). filled_by answer lines (lines_of f tenants')) same ∙ sym e'.1,
+          ∙ ap (λ (answer : Result ℕ Refusal). filled_by answer lines (lines_of f tenants')) same ∙ sym e'.1,
     )
 
-left : (answer : Listed) (list all : List (List ℕ)) → ((list_reply answer).number ≡ 0 → ⊥) → filled_by answer list all ≡ list
-left (Count n) list all h = absurd (h refl)
-left (Refused refusal) list all h = refl
+left : (answer : Result ℕ Refusal) (list all : List (List ℕ)) → ((list_reply answer).number ≡ 0 → ⊥) → filled_by answer list all ≡ list
+left (Ok n) list all h = absurd (h refl)
+left (Err refusal) list all h = refl
 
 pub RefusalsLeaveTheLines : promised.RefusalsLeaveTheLines
 RefusalsLeaveTheLines container tenants lines lines' r e h =
     rw e.1 (left (stated_of container tenants (length lines)) lines (lines_of (film_in container) tenants) (rw e.0 at h))
 
 -- a count is that of the lines, and has room
-all_lines : (container : List ℕ) (tenants lines : List (List ℕ)) (n : ℕ) → stated_of container tenants (length lines) ≡ Count n
+all_lines : (container : List ℕ) (tenants lines : List (List ℕ)) (n : ℕ) → stated_of container tenants (length lines) ≡ Ok n
     → (length (lines_of (film_in container) tenants) ≡ n) × (n ≤ length lines)
 all_lines container tenants lines n e =
     let f = film_in container in

@@ -1,4 +1,5 @@
 -- Each answer to a statement, with the list after it, from the tests and the survey. Assumes nothing.
+use Rattle.std.specs.Prelude.{Ok, Err}
 use Prim.Native.Nat.{ℕ, ◌+◌, ◌≤◌, ◌<◌}
 use mathlib.Core.Path.{◌≡◌, refl}
 use mathlib.Core.Bool.{Bool, true, false}
@@ -17,9 +18,7 @@ use Rattle.walk.specs.Walks.{walk_from}
 use Rattle.clip.specs.Clips.{bits_shown}
 use Rattle.header.specs.declared.Header.{Header}
 use Rattle.film.specs.Films.{Film, film, refused, survey_of}
-use Rattle.film.specs.declared.Surveyed.TheVariants as survey
 use Rattle.extract.proofs.AnswerLaws.{its_film, its_sizes}
-use Rattle.list.specs.declared.Listed.TheVariants.{Count, Refused}
 use Rattle.list.specs.declared.ListReply.{ListReply}
 use Rattle.list.specs.Listing.{list_reply}
 use Rattle.key_shown.specs.Shown.{shown_by}
@@ -28,7 +27,7 @@ use Rattle.tenants.specs.Shares.{line_at, lines_from}
 use Rattle.statement.specs.Statements.{film_in, refused_by, StatedBy, Stated}
 
 -- which film a survey that refuses is of
-no_film : (f : Film) (refusal : Refusal) → survey_of f ≡ survey.Refused refusal → f ≡ refused refusal
+no_film : (f : Film) (refusal : Refusal) → survey_of f ≡ Err refusal → f ≡ refused refusal
 no_film (film header applied chunks) refusal e = let z : ◌≡◌ {A = ℕ} 0 1 = cc in absurd (omega arith)
 no_film (refused other) refusal e = cc
 
@@ -41,13 +40,13 @@ module _ (container : List ℕ) (tenants lines : List (List ℕ)) (r : ListReply
     bad_tenants b e = let t = le-ltb 0x40000000 (length container) l in (rw (t, b) e, rw (t, b) refl)
 
     module _ (good : are_bad tenants ≡ false) where
-      pub film_refused : (refusal : Refusal) → survey_of (film_in container) ≡ survey.Refused refusal → r ≡ list_reply (Refused refusal) → Stated container tenants lines r lines
+      pub film_refused : (refusal : Refusal) → survey_of (film_in container) ≡ Err refusal → r ≡ list_reply (Err refusal) → Stated container tenants lines r lines
       film_refused refusal s e =
           let t = le-ltb 0x40000000 (length container) l in
           let f = no_film (film_in container) refusal s in
           (rw (t, good, f) e, rw (t, good, f) refl)
 
-      module _ (header : Header) (applied : Applied) (count video audio : ℕ) (s : survey_of (film_in container) ≡ survey.Film header applied count video audio) where
+      module _ (header : Header) (applied : Applied) (count video audio : ℕ) (s : survey_of (film_in container) ≡ Ok (record { header = header; reading = applied; count = count; video = video; audio = audio })) where
         pub film_known : (adx : Bool) → adx ≡ is_adx header.audio_codec → (bits : ℕ) → bits ≡ bits_shown (shown_by adx (walk_from container applied header.start).chunks)
             → (lines' : List (List ℕ)) → StatedBy bits (video + audio) tenants lines r lines' → Stated container tenants lines r lines'
         film_known adx a bits b lines' (e, p) =
@@ -67,5 +66,5 @@ module _ (bits size : ℕ) (tenants lines : List (List ℕ)) (r : ListReply) whe
     short_by k e = let u = lt-ltb (length lines) (length tenants) k in (rw (good, u) e, rw (good, u) refl)
 
     pub all_by : length tenants ≤ length lines → (lines' : List (List ℕ)) → lines' ≡ sets lines 0 (lines_from (line_at bits size tenants) 0 (length tenants))
-        → r ≡ list_reply (Count (length tenants)) → StatedBy bits size tenants lines r lines'
+        → r ≡ list_reply (Ok (length tenants)) → StatedBy bits size tenants lines r lines'
     all_by k lines' p e = let u = le-ltb (length lines) (length tenants) k in (rw (good, u) e, rw (good, u) p)

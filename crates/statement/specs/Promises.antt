@@ -1,16 +1,12 @@
 -- What a statement promises of its lines. Each is proved under the same name in proofs/Promises.antt.
-use Rattle.std.specs.Prelude.{ℕ, ◌+◌, ◌≤◌, ◌<◌, ◌≡◌, ◌↔◌, cond, length, get_or, take, eqb}
+use Rattle.std.specs.Prelude.{ℕ, ◌+◌, ◌≤◌, ◌<◌, ◌≡◌, ◌↔◌, cond, length, get_or, take, eqb, Option, Some, Result, Ok, Err}
 use mathlib.Core.List.{List, [], ◌∷◌, Memᴰ, Permᴰ}
 use Rattle.laws.specs.Lists.{at}
 use Rattle.refusal.specs.declared.Refusal.{Refusal}
 use Rattle.refusal.specs.Numbers.{number_of}
 use Rattle.reading.specs.declared.AudioChoice.TheVariants.{Chosen}
 use Rattle.reading.specs.Choices.{as_original}
-use Rattle.unmasking.specs.declared.Key.{Key}
-use Rattle.unmasking.specs.declared.Key.TheVariants.{Given}
 use Rattle.extract.specs.declared.Contents.{Contents}
-use Rattle.extract.specs.declared.Extracted.{Extracted}
-use Rattle.extract.specs.declared.Extracted.TheVariants as extracted
 use Rattle.extract.specs.Extraction.{Extraction}
 use Rattle.list.specs.declared.ListReply.{ListReply}
 use Rattle.list.specs.Promises.{SamePast}
@@ -38,8 +34,8 @@ pub record Answered (container : List ℕ) (tenants lines : List (List ℕ)) (r 
   pub accepted : r.number ≡ 0
 
 -- a film's streams under a key, audio chosen, put into two outputs
-abbrev pub Unpacked : List ℕ → Key → List ℕ → List ℕ → Contents → List ℕ → List ℕ → Type 0
-Unpacked container key video audio contents = Extraction container (as_original Chosen) key video audio (extracted.Film contents)
+abbrev pub Unpacked : List ℕ → Option ℕ → List ℕ → List ℕ → Contents → List ℕ → List ℕ → Type 0
+Unpacked container key video audio contents = Extraction container (as_original Chosen) key video audio (Ok contents)
 
 -- ---- the promises
 
@@ -52,8 +48,8 @@ OneGroupExactlyWhenStreamsAgree =
     → Answered container tenants lines r lines'
     → Memᴰ tenant tenants → Memᴰ line (lines_given r lines') → tenant_in line ≡ number_in tenant
     → Memᴰ other tenants → Memᴰ line' (lines_given r lines') → tenant_in line' ≡ number_in other
-    → Unpacked container (Given (key_in tenant)) video audio contents video_after audio_after
-    → Unpacked container (Given (key_in other)) video audio contents' video_after' audio_after'
+    → Unpacked container (Some (key_in tenant)) video audio contents video_after audio_after
+    → Unpacked container (Some (key_in other)) video audio contents' video_after' audio_after'
     → (group_in line ≡ group_in line') ↔ ((video_after ≡ video_after') × (audio_after ≡ audio_after'))
 
 -- every tenant has a line, and there are as many lines as tenants
@@ -78,7 +74,7 @@ borne_by group (line ∷ lines) = cond (eqb (group_in line) group) (share_in lin
 abbrev pub SharesSumToTheCopy : Type 0
 SharesSumToTheCopy =
     (container : List ℕ) (tenants lines lines' : List (List ℕ)) (r : ListReply) (line : List ℕ)
-    (key : Key) (video audio video_after audio_after : List ℕ) (contents : Contents)
+    (key : Option ℕ) (video audio video_after audio_after : List ℕ) (contents : Contents)
     → Answered container tenants lines r lines' → Memᴰ line (lines_given r lines')
     → Unpacked container key video audio contents video_after audio_after
     → borne_by (group_in line) (lines_given r lines') ≡ contents.video_size + contents.audio_size
@@ -126,13 +122,13 @@ AnsweredAreOneToSixteen = (container : List ℕ) (tenants lines lines' : List (L
 -- a film that has a statement can be unpacked under every key and under none, into outputs as long as the container: so there are two extractions to compare
 abbrev pub EveryKeyUnpacks : Type 0
 EveryKeyUnpacks =
-    (container : List ℕ) (tenants lines lines' : List (List ℕ)) (r : ListReply) (key : Key) (video audio : List ℕ) → Answered container tenants lines r lines'
+    (container : List ℕ) (tenants lines lines' : List (List ℕ)) (r : ListReply) (key : Option ℕ) (video audio : List ℕ) → Answered container tenants lines r lines'
     → length container ≤ length video → length container ≤ length audio
     → (contents : Contents) × (video_after : List ℕ) × (audio_after : List ℕ) × Unpacked container key video audio contents video_after audio_after
 
 -- what extraction answers, audio chosen, into outputs as long as the container: a film, or the walk's own refusal
-pub record Walked (container : List ℕ) (answer : Extracted) : Type 0 where
-  pub key : Key
+pub record Walked (container : List ℕ) (answer : Result Contents Refusal) : Type 0 where
+  pub key : Option ℕ
   pub video : List ℕ
   pub audio : List ℕ
   pub video_after : List ℕ
@@ -149,10 +145,10 @@ RefusedBy r number place = (r.number ≡ number) × (r.refused_at ≡ place)
 pub record InOrder (container : List ℕ) (tenants lines : List (List ℕ)) (r : ListReply) : Type 0 where
   pub too_long : 0x40000000 < length container → RefusedBy r 11 0
   pub bad_tenants : length container ≤ 0x40000000 → (OneToSixteen tenants → ⊥) → RefusedBy r 22 0
-  pub walks_own : length container ≤ 0x40000000 → OneToSixteen tenants → (refusal : Refusal) → Walked container (extracted.Refused refusal) → RefusedBy r (number_of refusal.cause) refusal.place
-  pub short_list : length container ≤ 0x40000000 → OneToSixteen tenants → (contents : Contents) → Walked container (extracted.Film contents) → length lines < length tenants
+  pub walks_own : length container ≤ 0x40000000 → OneToSixteen tenants → (refusal : Refusal) → Walked container (Err refusal) → RefusedBy r (number_of refusal.cause) refusal.place
+  pub short_list : length container ≤ 0x40000000 → OneToSixteen tenants → (contents : Contents) → Walked container (Ok contents) → length lines < length tenants
       → RefusedBy r 13 0 × (r.count ≡ length tenants)
-  pub answered : length container ≤ 0x40000000 → OneToSixteen tenants → (contents : Contents) → Walked container (extracted.Film contents) → length tenants ≤ length lines
+  pub answered : length container ≤ 0x40000000 → OneToSixteen tenants → (contents : Contents) → Walked container (Ok contents) → length tenants ≤ length lines
       → RefusedBy r 0 0 × (r.count ≡ length tenants)
 
 -- The order of the refusals, on what extraction answers.

@@ -9,8 +9,7 @@ ghost use Rattle.list.specs.Listing.{list_reply};
 ghost use Rattle.tenants.specs.Shares.{line_at, lines_from};
 ghost use Rattle.statement.specs.Statements.{refused_by, StatedBy, Stated};
 
-use film::Surveyed;
-use list::{ListReply, Listed};
+use list::ListReply;
 use reading::AudioChoice;
 use refusal::{Cause, LONGEST, Refusal};
 
@@ -18,7 +17,7 @@ use refusal::{Cause, LONGEST, Refusal};
 fn refused(cause: Cause) -> ListReply
     ensures { result ≡ list_reply (refused_by cause) }
 {
-    list::list_reply(Listed::Refused(Refusal { cause, place: 0 }))
+    list::list_reply(Err(Refusal { cause, place: 0 }))
 }
 
 // Puts the lines of all tenants at the start of a list.
@@ -26,11 +25,8 @@ fn put_lines(tenants: &[[u64; 2]], bits: u64, size: usize, lines: &mut [[u64; 3]
     requires { length tenants.now ≤ length lines.old }
     ensures { lines.new ≡ sets lines.old 0 (lines_from (line_at bits size tenants.now) 0 (length tenants.now)) }
 {
-    let mut rank = 0;
-    while rank < tenants.len() {
-        let line = tenants::line_at(tenants, bits, size, rank);
-        lines[rank] = line;
-        rank += 1;
+    for rank in 0..tenants.len() {
+        lines[rank] = tenants::line_at(tenants, bits, size, rank);
     }
 }
 
@@ -48,7 +44,7 @@ pub fn state_by(bits: u64, size: usize, tenants: &[[u64; 2]], lines: &mut [[u64;
         return refused(Cause::ShortList(count));
     }
     put_lines(tenants, bits, size, lines);
-    list::list_reply(Listed::Count(count))
+    list::list_reply(Ok(count))
 }
 
 // The same of a container that is read whole, audio chosen.
@@ -61,19 +57,11 @@ pub fn state(container: &[u8], tenants: &[[u64; 2]], lines: &mut [[u64; 3]]) -> 
     if tenants::are_bad(tenants) {
         return refused(Cause::BadTenants);
     }
-    match film::survey(container, reading::as_original(AudioChoice::Chosen)) {
-        Surveyed::Film {
-            header,
-            reading: applied,
-            count: _,
-            video,
-            audio,
-        } => {
-            let codec = header.audio_codec;
-            let adx = unmasking::is_adx(codec);
-            let bits = key_shown::bits_from(container, header.start, applied, adx);
-            state_by(bits, video + audio, tenants, lines)
-        }
-        Surveyed::Refused(refusal) => list::list_reply(Listed::Refused(refusal)),
-    }
+    let survey = match film::survey(container, reading::as_original(AudioChoice::Chosen)) {
+        Ok(survey) => survey,
+        Err(refusal) => return list::list_reply(Err(refusal)),
+    };
+    let adx = unmasking::is_adx(survey.header.audio_codec);
+    let bits = key_shown::bits_from(container, survey.header.start, survey.reading, adx);
+    state_by(bits, survey.video + survey.audio, tenants, lines)
 }

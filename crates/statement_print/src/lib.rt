@@ -6,10 +6,10 @@
 #![tactic(auto)]
 
 use descriptors::STDOUT_FILENO;
-use film::Surveyed;
 use film_apart::{Parting, Stream};
 use list::ListReply;
 use reading::AudioChoice;
+use refusal::Refusal;
 use statement_reasons::Why;
 
 // A film of more bytes is refused here.
@@ -55,25 +55,14 @@ fn print_copy(shown: Shown) {
 }
 
 // Prints the line of a tenant.
-fn print_line(line: [u64; 3]) {
+fn print_line([tenant, group, share]: [u64; 3]) {
     print(b"tenant ");
-    print_number(line[0]);
+    print_number(tenant);
     print(b": group ");
-    print_number(line[1]);
+    print_number(group);
     print(b", share ");
-    print_number(line[2]);
+    print_number(share);
     print(b"\n");
-}
-
-// Prints the first lines of a list.
-fn print_lines(lines: &[[u64; 3]], count: usize) {
-    let mut i = 0;
-    while i < lines.len() {
-        if i < count {
-            print_line(lines[i]);
-        }
-        i += 1;
-    }
 }
 
 // Prints why the tenants of a group have one copy.
@@ -92,20 +81,16 @@ fn print_why(why: Why) {
 
 // The mark of a place where two keys have different digits that count, and of any other.
 fn mark(key: u64, other: u64, place: usize) -> u8 {
-    if typed::digit_counts(place) {
-        if typed::digits_differ(key, other, place) {
-            return b'^';
-        }
+    if typed::digit_counts(place) && typed::digits_differ(key, other, place) {
+        return b'^';
     }
     b'.'
 }
 
 // Prints a mark for each of the 16 places of two keys.
 fn print_marks(key: u64, other: u64) {
-    let mut place = 0;
-    while place < typed::PLACES {
+    for place in 0..typed::PLACES {
         print(&[mark(key, other, place)]);
-        place += 1;
     }
 }
 
@@ -120,16 +105,14 @@ fn print_byte(stream: Stream, byte: usize) {
 }
 
 // Prints the first byte of the streams that differs. Two groups have one, and their film is read.
-fn print_parting(parting: Parting) {
+fn print_parting(parting: Result<Option<Parting>, Refusal>) {
     match parting {
-        Parting::Same => {}
-        Parting::Apart {
-            stream,
-            byte,
-            chunk: _,
-            offset: _,
-        } => print_byte(stream, byte),
-        Parting::Refused(_) => {}
+        Ok(None) => {}
+        Ok(Some(parting)) => {
+            let stream = parting.stream;
+            print_byte(stream, parting.byte)
+        }
+        Err(_) => {}
     }
 }
 
@@ -148,48 +131,35 @@ fn print_apart(container: &[u8], key: u64, other: u64) {
     print_parting(film_apart::film_apart(container, reading, key, other));
 }
 
-// Prints a group's reasons, after so many others of which the last has this lowest tenant.
+// Prints a group's reasons, after those of the group whose lowest tenant is `before`, if there is one.
 fn print_group(
     container: &[u8],
     tenants: &[[u64; 2]],
     shown: Shown,
     group: u64,
-    others: usize,
-    last: u64,
+    before: Option<u64>,
 ) {
     let key = tenants::key_of(tenants, group);
     print(b"group ");
     print_number(group);
     print(b": ");
     print_why(statement_reasons::why_one(tenants, shown.bits, key));
-    if others == 0 {
-        return;
+    if let Some(before) = before {
+        print_apart(container, tenants::key_of(tenants, before), key);
     }
-    print_apart(container, tenants::key_of(tenants, last), key);
 }
 
-// How many copies the first lines of a list are of: as many as tenants who are the lowest of their group. Prints the reasons of
-// each.
-fn print_groups(
-    container: &[u8],
-    tenants: &[[u64; 2]],
-    shown: Shown,
-    lines: &[[u64; 3]],
-    count: usize,
-) -> usize {
-    let mut last = 0;
-    let mut groups: usize = 0;
-    let mut i = 0;
-    while i < lines.len() {
-        let line = lines[i];
-        if i < count {
-            if line[0] == line[1] {
-                print_group(container, tenants, shown, line[1], groups, last);
-                last = line[1];
-                groups = std::num::wrapping_add_usize(groups, 1);
-            }
+// Prints the reasons of each group of a list of lines, and answers how many copies the lines are of: as many as tenants who
+// are the lowest of their group.
+fn print_groups(container: &[u8], tenants: &[[u64; 2]], shown: Shown, lines: &[[u64; 3]]) -> usize {
+    let mut before = None;
+    let mut groups = 0;
+    for [tenant, group, _] in lines {
+        if *tenant == *group {
+            print_group(container, tenants, shown, *group, before);
+            before = Some(*group);
+            groups += 1;
         }
-        i += 1;
     }
     groups
 }
@@ -207,8 +177,11 @@ fn print_statement(
         return;
     }
     print_copy(shown);
-    print_lines(lines, reply.count);
-    let copies = print_groups(container, tenants, shown, lines, reply.count);
+    let lines = lines.get(..reply.count).unwrap_or(lines);
+    for line in lines {
+        print_line(*line);
+    }
+    let copies = print_groups(container, tenants, shown, lines);
     print(b"copies: ");
     print_number(copies as u64);
     print(b"\n");
@@ -223,19 +196,16 @@ pub fn tell(container: &[u8], tenants: &[[u64; 2]]) {
     let mut lines = [[0; 3]; MOST];
     let reply = statement::state(container, tenants, &mut lines);
     match film::survey(container, reading::as_original(AudioChoice::Chosen)) {
-        Surveyed::Film {
-            header,
-            reading,
-            count: _,
-            video,
-            audio,
-        } => {
-            let codec = header.audio_codec;
+        Ok(survey) => {
+            let codec = survey.header.audio_codec;
             let adx = unmasking::is_adx(codec);
-            let bits = key_shown::bits_from(container, header.start, reading, adx);
+            let reading = survey.reading;
+            let bits = key_shown::bits_from(container, survey.header.start, reading, adx);
+            let video = survey.video;
+            let audio = survey.audio;
             let shown = Shown { bits, video, audio };
             print_statement(container, tenants, shown, &lines, reply);
         }
-        Surveyed::Refused(_) => print_refusal(reply.number as u64, reply.refused_at as u64),
+        Err(_) => print_refusal(reply.number as u64, reply.refused_at as u64),
     }
 }

@@ -1,4 +1,5 @@
 -- Both modes read a column alike whose nibble is 3, 5 or 7, and so a table that has no other. Assumes nothing.
+use Rattle.std.specs.Prelude.{Option, Some, None, Result, Ok, Err}
 use mathlib.Core.Path.{◌≡◌, refl, sym, ap, ap₂, ◌∙◌}
 use mathlib.Core.List.{List}
 use mathlib.Core.Bool.{Bool, true, false, not, cond, ◌||◌, ◌&&◌}
@@ -14,27 +15,17 @@ use Rattle.reading.specs.declared.TableMode.TheVariants.{Original, ZeroColumns}
 use Rattle.refusal.specs.declared.Cause.{Cause}
 use Rattle.refusal.specs.declared.Cause.TheVariants as cause
 use Rattle.layout.specs.declared.Layout.{Layout}
-use Rattle.layout.specs.declared.LayoutAnswer.{LayoutAnswer}
-use Rattle.layout.specs.declared.LayoutAnswer.TheVariants.{Laid, NoLayout}
 use Rattle.layout.specs.Layouts.{laid_in, counted_in, layout_in}
 use Rattle.cell.specs.declared.Cell.{Cell}
 use Rattle.cell.specs.declared.Cell.TheVariants.{Nothing}
-use Rattle.cell.specs.declared.CellAnswer.{CellAnswer}
-use Rattle.cell.specs.declared.CellAnswer.TheVariants.{Got, Refused}
-use Rattle.cell.specs.declared.Ending.{Ending}
-use Rattle.cell.specs.declared.Ending.TheVariants.{At, Endless}
 use Rattle.cell.specs.Types.{Kind, u8, i8, u16, i16, u32, i32, u64, f32, text, blob, unknown, kind_of, width_of}
 use Rattle.cell.specs.Parts.{end_of}
 use Rattle.cell.specs.Cells.{value_at, cell_at}
 use Rattle.column.specs.declared.Storage.{Storage}
 use Rattle.column.specs.declared.Storage.TheVariants.{Constant, Stored, Zero, Unknown}
 use Rattle.column.specs.declared.Column.{Column}
-use Rattle.column.specs.declared.ColumnAnswer.{ColumnAnswer}
-use Rattle.column.specs.declared.ColumnAnswer.TheVariants.{Found, NoColumn}
 use Rattle.column.specs.Storages.{storage_of, record_of, in_record, row_of, constant_at, cell_in}
 use Rattle.column.specs.Columns.{column_of, column_by, column_from, named, column_at}
-use Rattle.table.specs.declared.Walk.{Walk}
-use Rattle.table.specs.declared.Walk.TheVariants.{Done, Stopped}
 use Rattle.table.specs.Walks.{after_column, columns_from, after_cell, row_from, after_walk, rows_from, walk_of}
 use Rattle.table.specs.Promises.{known, known_from, relaid}
 
@@ -116,31 +107,31 @@ module _ (b : List ℕ) (l : Layout) where
       ∙ ap (column_of name (storage_of Original x) (x % 16) (p + in_record Original x))
       (constant_stays b l ZeroColumns (storage_of Original x) (x % 16) (p + 5) ∙ sym (constant_stays b l Original (storage_of Original x) (x % 16) (p + 5)))
 
-  named_agrees : (p name : ℕ) → known (at b p) ≡ true → (e : Ending) → named b p name zl e ≡ named b p name ol e
+  named_agrees : (p name : ℕ) → known (at b p) ≡ true → (e : Option ℕ) → named b p name zl e ≡ named b p name ol e
   unfolding named column_from
-  named_agrees p name h (At z) = by_agrees p (at b p) name h
-  named_agrees p name h Endless = refl
+  named_agrees p name h (Some z) = by_agrees p (at b p) name h
+  named_agrees p name h None = refl
 
   pub column_agrees : (p : ℕ) → known (at b p) ≡ true → column_at b p zl ≡ column_at b p ol
   unfolding column_at
   column_agrees p h = rw (named_agrees p (l.strings + be32 b (p + 1)) h (end_of b (l.strings + be32 b (p + 1))))
 
   -- a column's record ends where what it takes ends
-  of_next : (name : ℕ) (s : Storage) (k next : ℕ) (x : CellAnswer) (c : Column) → column_of name s k next x ≡ Found c → next ≡ c.next
-  of_next name s k next (Got v) c e = cc
-  of_next name s k next (Refused why) c e = let z : ◌≡◌ {A = ℕ} 0 1 = cc in absurd (omega arith)
+  of_next : (name : ℕ) (s : Storage) (k next : ℕ) (x : Result Cell Cause) (c : Column) → column_of name s k next x ≡ Ok c → next ≡ c.next
+  of_next name s k next (Ok v) c e = cc
+  of_next name s k next (Err why) c e = let z : ◌≡◌ {A = ℕ} 0 1 = cc in absurd (omega arith)
 
-  named_next : (p name : ℕ) (e : Ending) (c : Column) → named b p name ol e ≡ Found c → p + in_record Original (at b p) ≡ c.next
+  named_next : (p name : ℕ) (e : Option ℕ) (c : Column) → named b p name ol e ≡ Ok c → p + in_record Original (at b p) ≡ c.next
   unfolding named column_from
-  named_next p name (At z) c h =
+  named_next p name (Some z) c h =
       of_next name (storage_of Original (at b p)) (at b p % 16) (p + in_record Original (at b p)) (constant_at b (storage_of Original (at b p)) (at b p % 16) (p + 5) ol) c h
-  named_next p name Endless c h = let z : ◌≡◌ {A = ℕ} 0 1 = cc in absurd (omega arith)
+  named_next p name None c h = let z : ◌≡◌ {A = ℕ} 0 1 = cc in absurd (omega arith)
 
-  column_next : (p : ℕ) (c : Column) → column_at b p ol ≡ Found c → p + in_record Original (at b p) ≡ c.next
+  column_next : (p : ℕ) (c : Column) → column_at b p ol ≡ Ok c → p + in_record Original (at b p) ≡ c.next
   unfolding column_at
   column_next p c h = go (leb (p + 5) (length b)) h
     where
-      go : (t : Bool) → cond t (named b p (l.strings + be32 b (p + 1)) ol (end_of b (l.strings + be32 b (p + 1)))) (NoColumn cause.RanOut) ≡ Found c
+      go : (t : Bool) → cond t (named b p (l.strings + be32 b (p + 1)) ol (end_of b (l.strings + be32 b (p + 1)))) (Err cause.RanOut) ≡ Ok c
           → p + in_record Original (at b p) ≡ c.next
       go true e = named_next p (l.strings + be32 b (p + 1)) (end_of b (l.strings + be32 b (p + 1))) c e
       go false e = let z : ◌≡◌ {A = ℕ} 0 1 = cc in absurd (omega arith)
@@ -154,11 +145,11 @@ module _ (b : List ℕ) (l : Layout) where
       ap (after_column (columns_from b zl n)) (column_agrees p (known_here b n p all))
       ∙ go (column_at b p ol) refl (columns_agree n (p + in_record Original (at b p)) (known_later b n p all))
     where
-      go : (x : ColumnAnswer) → column_at b p ol ≡ x
+      go : (x : Result Column Cause) → column_at b p ol ≡ x
           → columns_from b zl n (p + in_record Original (at b p)) ≡ columns_from b ol n (p + in_record Original (at b p))
           → after_column (columns_from b zl n) x ≡ after_column (columns_from b ol n) x
-      go (Found c) e w = rw (column_next p c e) at w
-      go (NoColumn why) e w = refl
+      go (Ok c) e w = rw (column_next p c e) at w
+      go (Err why) e w = refl
 
   row_agrees : (n p q : ℕ) → known_from b n p ≡ true → row_from b zl n p q ≡ row_from b ol n p q
   unfolding row_from
@@ -177,9 +168,9 @@ module _ (b : List ℕ) (l : Layout) where
     rows_agree (suc n) q =
         ap (after_walk (rows_from b zl n)) (row_agrees l.columns 0 q all) ∙ go (row_from b ol l.columns 0 q) (λ p. rows_agree n p)
       where
-        go : (w : Walk) → ((p : ℕ) → rows_from b zl n p ≡ rows_from b ol n p) → after_walk (rows_from b zl n) w ≡ after_walk (rows_from b ol n) w
-        go (Done p) rest = rest p
-        go (Stopped why) rest = refl
+        go : (w : Result ℕ Cause) → ((p : ℕ) → rows_from b zl n p ≡ rows_from b ol n p) → after_walk (rows_from b zl n) w ≡ after_walk (rows_from b ol n) w
+        go (Ok p) rest = rest p
+        go (Err why) rest = refl
 
     pub walk_agrees : walk_of b zl ≡ walk_of b ol
     unfolding walk_of
@@ -187,19 +178,19 @@ module _ (b : List ℕ) (l : Layout) where
 
 -- ---- a layout in one mode is that in another
 
-abbrev pub relaid_in : TableMode → LayoutAnswer → LayoutAnswer
-relaid_in m (Laid l) = Laid (relaid m l)
-relaid_in m (NoLayout why) = NoLayout why
+abbrev pub relaid_in : TableMode → Result Layout Cause → Result Layout Cause
+relaid_in m (Ok l) = Ok (relaid m l)
+relaid_in m (Err why) = Err why
 
 module _ (m : TableMode) where
-  past : (t : Bool) (why : Cause) (x y : LayoutAnswer) → x ≡ relaid_in m y → cond t (NoLayout why) x ≡ relaid_in m (cond t (NoLayout why) y)
+  past : (t : Bool) (why : Cause) (x y : Result Layout Cause) → x ≡ relaid_in m y → cond t (Err why) x ≡ relaid_in m (cond t (Err why) y)
   past true why x y e = refl
   past false why x y e = e
 
   counted_alike : (t : List ℕ) (n : ℕ) → counted_in t m n ≡ relaid_in m (counted_in t Original n)
   unfolding counted_in
   counted_alike t n =
-      past (ltb 64 (be16 t 24)) cause.TooMany _ _ (past (ltb 256 (be32 t 28)) cause.TooMany (Laid (laid_in t m n)) (Laid (laid_in t Original n)) refl)
+      past (ltb 64 (be16 t 24)) cause.TooMany _ _ (past (ltb 256 (be32 t 28)) cause.TooMany (Ok (laid_in t m n)) (Ok (laid_in t Original n)) refl)
 
   pub laid_alike : (t : List ℕ) → layout_in t m ≡ relaid_in m (layout_in t Original)
   unfolding layout_in
@@ -211,9 +202,9 @@ module _ (m : TableMode) where
       (past (ltb (length t) (32 + (be32 t 4 - 24))) cause.RanOut _ _ (counted_alike t (be32 t 4 - 24))))))
 
 -- a layout that was read in a mode has that mode
-pub own_mode : (t : List ℕ) (m : TableMode) (l : Layout) → layout_in t m ≡ Laid l → relaid m l ≡ l
+pub own_mode : (t : List ℕ) (m : TableMode) (l : Layout) → layout_in t m ≡ Ok l → relaid m l ≡ l
 own_mode t m l e = sym (go (layout_in t Original) (sym e ∙ laid_alike m t))
   where
-    go : (x : LayoutAnswer) → Laid l ≡ relaid_in m x → l ≡ relaid m l
-    go (Laid k) f = let same : l ≡ relaid m k = cc in same ∙ sym (ap (relaid m) same)
-    go (NoLayout why) f = let z : ◌≡◌ {A = ℕ} 0 1 = cc in absurd (omega arith)
+    go : (x : Result Layout Cause) → Ok l ≡ relaid_in m x → l ≡ relaid m l
+    go (Ok k) f = let same : l ≡ relaid m k = cc in same ∙ sym (ap (relaid m) same)
+    go (Err why) f = let z : ◌≡◌ {A = ℕ} 0 1 = cc in absurd (omega arith)

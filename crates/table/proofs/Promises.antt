@@ -1,4 +1,6 @@
 -- The promises of specs/Promises.antt, each under its name: a layout that breaks the first is refused, and known columns are read alike. Assumes nothing.
+use Rattle.std.specs.Prelude.{Result, Ok, Err}
+use Rattle.refusal.specs.declared.Cause.{Cause}
 use mathlib.Core.Path.{◌≡◌, refl, ap, ◌∙◌, subst}
 use mathlib.Core.List.{List}
 use mathlib.Core.Bool.{true}
@@ -7,12 +9,8 @@ use native.Mathlib.Omega.{arith}
 use lib.ListN.{drop, length-drop}
 use Rattle.reading.specs.declared.TableMode.TheVariants.{Original, ZeroColumns}
 use Rattle.layout.specs.declared.Layout.{Layout}
-use Rattle.layout.specs.declared.LayoutAnswer.{LayoutAnswer}
-use Rattle.layout.specs.declared.LayoutAnswer.TheVariants.{Laid, NoLayout}
 use Rattle.layout.specs.Layouts.{layout_in, body_of}
 use Rattle.layout.proofs.LayoutLaws.{sound}
-use Rattle.table.specs.declared.Walk.{Walk}
-use Rattle.table.specs.declared.Walk.TheVariants.{Done, Stopped}
 use Rattle.table.specs.Walks.{walk_of}
 use Rattle.table.specs.Tables.{table_to, table_from, table_of}
 use Rattle.table.specs.Promises.{known_in, relaid, in_mode}
@@ -27,14 +25,14 @@ AcceptedLiesWithin bytes place m l e =
     (s.0, s.1, s.2, omega (arith, s.3, length-drop place bytes))
 
 module _ (place : ℕ) (t : List ℕ) where
-  to_mode : (l : Layout) (w : Walk) → table_to place (relaid ZeroColumns l) w ≡ in_mode ZeroColumns (table_to place (relaid Original l) w)
-  to_mode l (Done q) = refl
-  to_mode l (Stopped why) = refl
+  to_mode : (l : Layout) (w : Result ℕ Cause) → table_to place (relaid ZeroColumns l) w ≡ in_mode ZeroColumns (table_to place (relaid Original l) w)
+  to_mode l (Ok q) = refl
+  to_mode l (Err why) = refl
 
-  by_layout : (x : LayoutAnswer) → known_in t x ≡ true → table_from place t (relaid_in ZeroColumns x) ≡ in_mode ZeroColumns (table_from place t (relaid_in Original x))
-  by_layout (Laid l) all =
+  by_layout : (x : Result Layout Cause) → known_in t x ≡ true → table_from place t (relaid_in ZeroColumns x) ≡ in_mode ZeroColumns (table_from place t (relaid_in Original x))
+  by_layout (Ok l) all =
       ap (table_to place (relaid ZeroColumns l)) (walk_agrees (body_of t l) l all) ∙ to_mode l (walk_of (body_of t l) (relaid Original l))
-  by_layout (NoLayout why) all = refl
+  by_layout (Err why) all = refl
 
   agree : known_in t (layout_in t Original) ≡ true → table_of place t ZeroColumns ≡ in_mode ZeroColumns (table_of place t Original)
   unfolding table_of

@@ -1,5 +1,8 @@
 -- Which causes a table, its columns and its cells can be refused for: answer by answer, from the leaves on. Assumes nothing.
-use Prim.Native.Nat.{ℕ, zero, suc, ◌+◌, ◌*◌, ◌-◌, ◌/◌, ◌%◌}
+use Rattle.std.specs.Prelude.{Option, Some, None, Result, Ok, Err}
+use Rattle.refusal.specs.declared.Refusal.{Refusal}
+use Rattle.column.specs.declared.Column.{Column}
+use Prim.Native.Nat.{ℕ, zero, suc, ◌+◌, ◌-◌, ◌%◌}
 use mathlib.Core.Path.{◌≡◌, refl}
 use mathlib.Core.Bool.{Bool, true, false, not, cond}
 use mathlib.Core.List.{List}
@@ -10,28 +13,16 @@ use Rattle.word.specs.Numbers.{be16, be32}
 use Rattle.refusal.specs.declared.Cause.{Cause}
 use Rattle.reading.specs.declared.TableMode.{TableMode}
 use Rattle.layout.specs.declared.Layout.{Layout}
-use Rattle.layout.specs.declared.LayoutAnswer.{LayoutAnswer}
-use Rattle.layout.specs.declared.LayoutAnswer.TheVariants.{Laid, NoLayout}
 use Rattle.layout.specs.Layouts.{counted_in, layout_in, body_of}
 use Rattle.cell.specs.declared.Cell.{Cell}
 use Rattle.cell.specs.declared.Cell.TheVariants.{Nothing}
-use Rattle.cell.specs.declared.CellAnswer.{CellAnswer}
-use Rattle.cell.specs.declared.CellAnswer.TheVariants.{Got, Refused}
-use Rattle.cell.specs.declared.Ending.{Ending}
-use Rattle.cell.specs.declared.Ending.TheVariants.{At, Endless}
 use Rattle.cell.specs.Types.{Kind, u8, i8, u16, i16, u32, i32, u64, f32, text, blob, unknown, kind_of, width_of}
 use Rattle.cell.specs.Parts.{end_of, text_to, data_at}
 use Rattle.cell.specs.Cells.{value_at, cell_at, zero_cell}
 use Rattle.column.specs.declared.Storage.{Storage}
 use Rattle.column.specs.declared.Storage.TheVariants.{Constant, Stored, Zero, Unknown}
-use Rattle.column.specs.declared.ColumnAnswer.{ColumnAnswer}
-use Rattle.column.specs.declared.ColumnAnswer.TheVariants.{Found, NoColumn}
 use Rattle.column.specs.Storages.{storage_of, in_record, in_row, constant_at, cell_in}
 use Rattle.column.specs.Columns.{column_of, column_from, named, column_at}
-use Rattle.table.specs.declared.Walk.{Walk}
-use Rattle.table.specs.declared.Walk.TheVariants.{Done, Stopped}
-use Rattle.table.specs.declared.TableAnswer.{TableAnswer}
-use Rattle.table.specs.declared.TableAnswer.TheVariants.{Table, NoTable}
 use Rattle.table.specs.Walks.{after_column, columns_from, after_cell, row_from, after_walk, rows_from, walk_of}
 use Rattle.table.specs.Tables.{table_to, table_from, table_of, table_at}
 use Rattle.table.specs.Promises.{is_of_atable}
@@ -41,25 +32,25 @@ Fair why = is_of_atable why ≡ true
 
 -- ---- an answer that is refused for such a cause, if it is
 
-abbrev pub FairCell : CellAnswer → Type 0
-FairCell (Got cell) = Unit
-FairCell (Refused why) = Fair why
+abbrev pub FairCell : Result Cell Cause → Type 0
+FairCell (Ok cell) = Unit
+FairCell (Err why) = Fair why
 
-abbrev FairColumn : ColumnAnswer → Type 0
-FairColumn (Found column) = Unit
-FairColumn (NoColumn why) = Fair why
+abbrev FairColumn : Result Column Cause → Type 0
+FairColumn (Ok column) = Unit
+FairColumn (Err why) = Fair why
 
-abbrev FairWalk : Walk → Type 0
-FairWalk (Done q) = Unit
-FairWalk (Stopped why) = Fair why
+abbrev FairWalk : Result ℕ Cause → Type 0
+FairWalk (Ok q) = Unit
+FairWalk (Err why) = Fair why
 
-abbrev FairLayout : LayoutAnswer → Type 0
-FairLayout (Laid l) = Unit
-FairLayout (NoLayout why) = Fair why
+abbrev FairLayout : Result Layout Cause → Type 0
+FairLayout (Ok l) = Unit
+FairLayout (Err why) = Fair why
 
-abbrev pub FairTable : ℕ → TableAnswer → Type 0
-FairTable place (Table l) = Unit
-FairTable place (NoTable refusal) = Fair refusal.cause × (refusal.place ≡ place)
+abbrev pub FairTable : ℕ → Result Layout Refusal → Type 0
+FairTable place (Ok l) = Unit
+FairTable place (Err refusal) = Fair refusal.cause × (refusal.place ≡ place)
 
 -- either way of a test
 pub either : {A : Type 0} (Holds : A → Type 0) (t : Bool) (x y : A) → Holds x → Holds y → Holds (cond t x y)
@@ -68,9 +59,9 @@ either Holds false x y h k = k
 
 -- ---- cells
 
-text_fair : (start : ℕ) (ending : Ending) → FairCell (text_to start ending)
-text_fair start (At z) = tt
-text_fair start Endless = refl
+text_fair : (start : ℕ) (ending : Option ℕ) → FairCell (text_to start ending)
+text_fair start (Some z) = tt
+text_fair start None = refl
 
 data_fair : (body : List ℕ) (place size : ℕ) → FairCell (data_at body place size)
 data_fair body place size =
@@ -113,16 +104,16 @@ cell_in_fair b Stored constant k p l = cell_fair b k p l
 cell_in_fair b Zero constant k p l = zero_fair k
 cell_in_fair b Unknown constant k p l = refl
 
-column_of_fair : (name : ℕ) (storage : Storage) (kind next : ℕ) (x : CellAnswer) → FairCell x → FairColumn (column_of name storage kind next x)
-column_of_fair name storage kind next (Got cell) h = tt
-column_of_fair name storage kind next (Refused why) h = h
+column_of_fair : (name : ℕ) (storage : Storage) (kind next : ℕ) (x : Result Cell Cause) → FairCell x → FairColumn (column_of name storage kind next x)
+column_of_fair name storage kind next (Ok cell) h = tt
+column_of_fair name storage kind next (Err why) h = h
 
-named_fair : (b : List ℕ) (p name : ℕ) (l : Layout) (ending : Ending) → FairColumn (named b p name l ending)
+named_fair : (b : List ℕ) (p name : ℕ) (l : Layout) (ending : Option ℕ) → FairColumn (named b p name l ending)
 unfolding named column_from
-named_fair b p name l (At z) =
+named_fair b p name l (Some z) =
     column_of_fair name (storage_of l.mode (at b p)) (at b p % 16) (p + in_record l.mode (at b p)) (constant_at b (storage_of l.mode (at b p)) (at b p % 16) (p + 5) l)
     (constant_fair b (storage_of l.mode (at b p)) (at b p % 16) (p + 5) l)
-named_fair b p name l Endless = refl
+named_fair b p name l None = refl
 
 column_fair : (b : List ℕ) (p : ℕ) (l : Layout) → FairColumn (column_at b p l)
 unfolding column_at
@@ -131,18 +122,18 @@ column_fair b p l =
 
 -- ---- tables
 
-after_column_lem : (k : ℕ → Walk) → ((p : ℕ) → FairWalk (k p)) → (x : ColumnAnswer) → FairColumn x → FairWalk (after_column k x)
-after_column_lem k rest (Found column) h = rest column.next
-after_column_lem k rest (NoColumn why) h = h
+after_column_lem : (k : ℕ → Result ℕ Cause) → ((p : ℕ) → FairWalk (k p)) → (x : Result Column Cause) → FairColumn x → FairWalk (after_column k x)
+after_column_lem k rest (Ok column) h = rest column.next
+after_column_lem k rest (Err why) h = h
 
 columns_fair : (b : List ℕ) (l : Layout) (n p : ℕ) → FairWalk (columns_from b l n p)
 unfolding columns_from
 columns_fair b l zero p = tt
 columns_fair b l (suc n) p = after_column_lem (columns_from b l n) (columns_fair b l n) (column_at b p l) (column_fair b p l)
 
-after_cell_lem : (w : Walk) → FairWalk w → (x : CellAnswer) → FairCell x → FairWalk (after_cell w x)
-after_cell_lem w h (Got cell) k = h
-after_cell_lem w h (Refused why) k = k
+after_cell_lem : (w : Result ℕ Cause) → FairWalk w → (x : Result Cell Cause) → FairCell x → FairWalk (after_cell w x)
+after_cell_lem w h (Ok cell) k = h
+after_cell_lem w h (Err why) k = k
 
 row_fair : (b : List ℕ) (l : Layout) (n p q : ℕ) → FairWalk (row_from b l n p q)
 unfolding row_from
@@ -151,9 +142,9 @@ row_fair b l (suc n) p q =
     after_cell_lem _ (row_fair b l n (p + in_record l.mode (at b p)) (q + in_row l.mode (at b p)))
     (cell_in b (storage_of l.mode (at b p)) Nothing (at b p % 16) q l) (cell_in_fair b (storage_of l.mode (at b p)) Nothing (at b p % 16) q l)
 
-after_walk_lem : (k : ℕ → Walk) → ((q : ℕ) → FairWalk (k q)) → (x : Walk) → FairWalk x → FairWalk (after_walk k x)
-after_walk_lem k rest (Done q) h = rest q
-after_walk_lem k rest (Stopped why) h = h
+after_walk_lem : (k : ℕ → Result ℕ Cause) → ((q : ℕ) → FairWalk (k q)) → (x : Result ℕ Cause) → FairWalk x → FairWalk (after_walk k x)
+after_walk_lem k rest (Ok q) h = rest q
+after_walk_lem k rest (Err why) h = h
 
 rows_fair : (b : List ℕ) (l : Layout) (n q : ℕ) → FairWalk (rows_from b l n q)
 unfolding rows_from
@@ -177,13 +168,13 @@ layout_fair t m =
     (either FairLayout (ltb (be32 t 4) 24) _ _ refl
     (either FairLayout (ltb (length t) (32 + (be32 t 4 - 24))) _ _ refl (counted_fair t m (be32 t 4 - 24))))))
 
-to_fair : (place : ℕ) (l : Layout) (x : Walk) → FairWalk x → FairTable place (table_to place l x)
-to_fair place l (Done q) h = tt
-to_fair place l (Stopped why) h = (h, refl)
+to_fair : (place : ℕ) (l : Layout) (x : Result ℕ Cause) → FairWalk x → FairTable place (table_to place l x)
+to_fair place l (Ok q) h = tt
+to_fair place l (Err why) h = (h, refl)
 
-from_fair : (place : ℕ) (t : List ℕ) (x : LayoutAnswer) → FairLayout x → FairTable place (table_from place t x)
-from_fair place t (Laid l) h = to_fair place l (walk_of (body_of t l) l) (walk_fair (body_of t l) l)
-from_fair place t (NoLayout why) h = (h, refl)
+from_fair : (place : ℕ) (t : List ℕ) (x : Result Layout Cause) → FairLayout x → FairTable place (table_from place t x)
+from_fair place t (Ok l) h = to_fair place l (walk_of (body_of t l) l) (walk_fair (body_of t l) l)
+from_fair place t (Err why) h = (h, refl)
 
 pub table_fair : (bytes : List ℕ) (place : ℕ) (m : TableMode) → FairTable place (table_at bytes place m)
 unfolding table_of

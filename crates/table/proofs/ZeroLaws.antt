@@ -1,4 +1,5 @@
 -- A zero byte stands at or after p exactly where p lies before the end of the zeros. Assumes nothing.
+use Rattle.std.specs.Prelude.{Some}
 use mathlib.Core.Path.{◌≡◌, refl, sym, ap, ◌∙◌}
 use mathlib.Core.List.{List, [], ◌∷◌}
 use mathlib.Core.Bool.{Bool, true, false, cond}
@@ -9,7 +10,6 @@ use lib.ListN.{length, get_or, drop, length-drop}
 use lib.Seq.{get_or-drop}
 use lib.Dec.{eqb, ltb}
 use borrow.Author.Tests.{eq-eqb, ne_eqb, lt-ltb, le-ltb, eqb-true, eqb-false, ltb-true, ltb-false}
-use Rattle.cell.specs.declared.Ending.TheVariants.{At}
 use Rattle.cell.specs.Parts.{zero_in, end_of}
 use Rattle.table.specs.LastZero.{is_at, zeros_to}
 
@@ -22,7 +22,7 @@ some_zero [] p i h e = absurd (not-suc-le-zero h)
 some_zero (x ∷ xs) p zero h e = rw (eq-eqb x 0 e)
 some_zero (x ∷ xs) p (suc i) h e = go (eqb x 0) (some_zero xs (suc p) i (omega arith) e)
   where
-    go : (t : Bool) → is_at (zero_in xs (suc p)) ≡ true → is_at (cond t (At p) (zero_in xs (suc p))) ≡ true
+    go : (t : Bool) → is_at (zero_in xs (suc p)) ≡ true → is_at (cond t (Some p) (zero_in xs (suc p))) ≡ true
     go true w = refl
     go false w = w
 
@@ -31,7 +31,7 @@ no_zero : (l : List ℕ) (p : ℕ) → ((i : ℕ) → i < length l → get_or l 
 unfolding zero_in
 no_zero [] p f = refl
 no_zero (x ∷ xs) p f =
-    ap (λ (t : Bool). is_at (cond t (At p) (zero_in xs (suc p)))) (ne_eqb x 0 (f zero (omega arith)))
+    ap (λ (t : Bool). is_at (cond t (Some p) (zero_in xs (suc p)))) (ne_eqb x 0 (f zero (omega arith)))
     ∙ no_zero xs (suc p) (λ i h e. f (suc i) (omega arith) e)
 
 -- ---- the end, from above

@@ -1,12 +1,10 @@
 -- Whether a text ends in the body, told by the body's last zero byte. It serves the contracts of the walk's checks; the rules do not name it.
-use Rattle.std.specs.Prelude.{ℕ, zero, suc, List, Bool, true, false, cond, length, eqb}
+use Rattle.std.specs.Prelude.{ℕ, zero, suc, List, Bool, true, false, cond, length, eqb, Option, Some, None}
 use Rattle.laws.specs.Lists.{at}
-use Rattle.cell.specs.declared.Ending.{Ending}
-use Rattle.cell.specs.declared.Ending.TheVariants.{At, Endless}
 
-abbrev pub is_at : Ending → Bool
-is_at (At z) = true
-is_at Endless = false
+abbrev pub is_at : Option ℕ → Bool
+is_at (Some z) = true
+is_at None = false
 
 -- one past the last zero byte among the first n, or 0
 unfoldable pub zeros_to : List ℕ → ℕ → ℕ

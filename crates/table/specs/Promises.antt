@@ -1,5 +1,5 @@
 -- What tables promise. Each is proved under the same name in proofs/Promises.antt.
-use Rattle.std.specs.Prelude.{ℕ, zero, suc, ◌+◌, ◌/◌, ◌≤◌, ◌≡◌, List, Bool, true, false, ◌||◌, ◌&&◌, length, drop, eqb}
+use Rattle.std.specs.Prelude.{ℕ, zero, suc, ◌+◌, ◌/◌, ◌≤◌, ◌≡◌, List, Bool, true, false, ◌||◌, ◌&&◌, length, drop, eqb, Result, Ok, Err}
 use Rattle.refusal.specs.declared.Cause.{Cause}
 use Rattle.refusal.specs.declared.Cause.TheVariants as cause
 use Rattle.refusal.specs.declared.Refusal.{Refusal}
@@ -8,18 +8,14 @@ use Rattle.word.specs.Numbers.{be32}
 use Rattle.reading.specs.declared.TableMode.{TableMode}
 use Rattle.reading.specs.declared.TableMode.TheVariants.{Original, ZeroColumns}
 use Rattle.layout.specs.declared.Layout.{Layout}
-use Rattle.layout.specs.declared.LayoutAnswer.{LayoutAnswer}
-use Rattle.layout.specs.declared.LayoutAnswer.TheVariants.{Laid, NoLayout}
 use Rattle.layout.specs.Layouts.{layout_in, body_of}
 use Rattle.column.specs.Storages.{in_record}
-use Rattle.table.specs.declared.TableAnswer.{TableAnswer}
-use Rattle.table.specs.declared.TableAnswer.TheVariants.{Table, NoTable}
 use Rattle.table.specs.Tables.{table_at}
 
 -- An accepted table has at most 64 columns and 256 rows, and all of it lies within the slice: 32 bytes of header, and the size less 24.
 abbrev pub AcceptedLiesWithin : Type 0
 AcceptedLiesWithin =
-    (bytes : List ℕ) (place : ℕ) (m : TableMode) (l : Layout) → table_at bytes place m ≡ Table l
+    (bytes : List ℕ) (place : ℕ) (m : TableMode) (l : Layout) → table_at bytes place m ≡ Ok l
     → (l.columns ≤ 64) × (l.rows ≤ 256) × (be32 (drop place bytes) 4 ≡ l.size + 24) × (place + (32 + l.size) ≤ length bytes)
 
 -- ---- both modes
@@ -34,17 +30,17 @@ known_from b zero p = true
 known_from b (suc n) p = known (at b p) && known_from b n (p + in_record Original (at b p))
 
 -- all columns of the table that t begins with; one that is refused before them has none
-abbrev pub known_in : List ℕ → LayoutAnswer → Bool
-known_in t (Laid l) = known_from (body_of t l) l.columns 0
-known_in t (NoLayout why) = true
+abbrev pub known_in : List ℕ → Result Layout Cause → Bool
+known_in t (Ok l) = known_from (body_of t l) l.columns 0
+known_in t (Err why) = true
 
 -- a layout, and an answer, with the name of a mode in place of another
 abbrev pub relaid : TableMode → Layout → Layout
 relaid m l = record { size = l.size; columns = l.columns; rows = l.rows; start = l.start; strings = l.strings; blobs = l.blobs; mode = m }
 
-abbrev pub in_mode : TableMode → TableAnswer → TableAnswer
-in_mode m (Table l) = Table (relaid m l)
-in_mode m (NoTable refusal) = NoTable refusal
+abbrev pub in_mode : TableMode → Result Layout Refusal → Result Layout Refusal
+in_mode m (Ok l) = Ok (relaid m l)
+in_mode m (Err refusal) = Err refusal
 
 -- Where no column has nibble 1 and all kinds are known, both modes agree: on the layout, or on the refusal and its place.
 abbrev pub ModesAgree : Type 0
@@ -82,4 +78,4 @@ is_of_atable cause.CodecAlone = false
 -- A table is refused by 1, 3, 8, 9, 10 or 18, and by no other number, in both modes; and at its own start.
 abbrev pub TablesRefuseByThese : Type 0
 TablesRefuseByThese =
-    (bytes : List ℕ) (place : ℕ) (m : TableMode) (refusal : Refusal) → table_at bytes place m ≡ NoTable refusal → (is_of_atable refusal.cause ≡ true) × (refusal.place ≡ place)
+    (bytes : List ℕ) (place : ℕ) (m : TableMode) (refusal : Refusal) → table_at bytes place m ≡ Err refusal → (is_of_atable refusal.cause ≡ true) × (refusal.place ≡ place)

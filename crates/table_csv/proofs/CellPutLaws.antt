@@ -1,4 +1,6 @@
 -- Digits ask for no quotes, so a cell that is no string is written as it is; and how long the field of a cell is. Assumes nothing.
+use Rattle.std.specs.Prelude.{Result, Ok, Err}
+use Rattle.refusal.specs.declared.Cause.{Cause}
 use mathlib.Core.Path.{◌≡◌, refl, sym, ap, ◌∙◌}
 use mathlib.Core.List.{List, [], ◌∷◌, ◌++◌}
 use mathlib.Core.Bool.{Bool, true, false, cond, ◌&&◌}
@@ -15,8 +17,6 @@ use Rattle.text.specs.Numbers.{digits_for, decimal, hex, hex_bytes}
 use Rattle.text.proofs.NumberLaws.{decimal_fits, hex_fits}
 use Rattle.cell.specs.declared.Cell.{Cell}
 use Rattle.cell.specs.declared.Cell.TheVariants.{Nothing, Unsigned, Signed, Float, NotANumber, Text, Data}
-use Rattle.cell.specs.declared.CellAnswer.{CellAnswer}
-use Rattle.cell.specs.declared.CellAnswer.TheVariants.{Got, Refused}
 use Rattle.cell.specs.CellNumbers.{value_of, length_of}
 use Rattle.cell.specs.CellParts.{start_of}
 use Rattle.csv_text.specs.Written.{is_mark, is_quoted, field_of}
@@ -145,6 +145,6 @@ module _ (b : List ℕ) where
       let e = ap length (plain_field (hex_bytes (part_at b start len)) (hex_bytes_plain (part_at b start len))) in
       omega (arith, hex_bytes_length (part_at b start len), part_short b start len)
 
-  pub field_short : (x : CellAnswer) → length (field_of (text_in b x)) ≤ 2 * length b + 44
-  field_short (Got c) = cell_short c
-  field_short (Refused why) = omega (arith, field_length [])
+  pub field_short : (x : Result Cell Cause) → length (field_of (text_in b x)) ≤ 2 * length b + 44
+  field_short (Ok c) = cell_short c
+  field_short (Err why) = omega (arith, field_length [])

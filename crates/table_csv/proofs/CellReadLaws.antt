@@ -1,4 +1,7 @@
 -- A table that is accepted has no name, constant or cell that is refused: its walk would have stopped there. Assumes nothing.
+use Rattle.std.specs.Prelude.{Option, Some, None, Result, Ok, Err}
+use Rattle.cell.specs.declared.Cell.{Cell}
+use Rattle.refusal.specs.declared.Cause.{Cause}
 use mathlib.Core.Path.{◌≡◌, refl}
 use mathlib.Core.List.{List}
 use mathlib.Core.Bool.{Bool, true, false, cond}
@@ -12,18 +15,12 @@ use Rattle.word.specs.Numbers.{be32}
 use Rattle.refusal.specs.declared.Cause.TheVariants.{RanOut}
 use Rattle.layout.specs.declared.Layout.{Layout}
 use Rattle.cell.specs.declared.Cell.TheVariants.{Nothing}
-use Rattle.cell.specs.declared.CellAnswer.{CellAnswer}
-use Rattle.cell.specs.declared.CellAnswer.TheVariants.{Got, Refused}
-use Rattle.cell.specs.declared.Ending.{Ending}
-use Rattle.cell.specs.declared.Ending.TheVariants.{At, Endless}
 use Rattle.cell.specs.Parts.{end_of}
 use Rattle.cell.specs.Cells.{value_at, cell_at}
 use Rattle.column.specs.declared.Storage.{Storage}
 use Rattle.column.specs.declared.Storage.TheVariants.{Constant, Stored, Zero, Unknown}
-use Rattle.column.specs.declared.ColumnAnswer.TheVariants.{NoColumn}
 use Rattle.column.specs.Storages.{storage_of, in_record, in_row, constant_at, cell_in}
 use Rattle.column.specs.Columns.{column_of, column_from, named, column_at}
-use Rattle.table.specs.declared.TableAnswer.TheVariants.{Table}
 use Rattle.table.specs.Walks.{after_column, columns_from, after_cell, row_from, after_walk, rows_from, walk_of}
 use Rattle.table.specs.Tables.{table_to}
 use Rattle.table_csv.specs.declared.Line.TheVariants.{Names, Cells}
@@ -35,17 +32,17 @@ module _ (place : ℕ) (l : Layout) (b : List ℕ) where
   -- ---- a column
 
   -- the constant of the column whose record stands at body byte p
-  abbrev constant : ℕ → CellAnswer
+  abbrev constant : ℕ → Result Cell Cause
   constant p = constant_at b (storage_of l.mode (at b p)) (at b p % 16) (p + 5) l
 
-  by_constant : (name p next : ℕ) (k w : _) (x : CellAnswer)
-      → table_to place l (after_walk k (after_column w (column_of name (storage_of l.mode (at b p)) (at b p % 16) next x))) ≡ Table l
-      → IsRead x × (table_to place l (after_walk k (w next)) ≡ Table l)
-  by_constant name p next k w (Got c) e = (tt, e)
-  by_constant name p next k w (Refused why) e = let z : ◌≡◌ {A = ℕ} 0 1 = cc in absurd (omega arith)
+  by_constant : (name p next : ℕ) (k w : _) (x : Result Cell Cause)
+      → table_to place l (after_walk k (after_column w (column_of name (storage_of l.mode (at b p)) (at b p % 16) next x))) ≡ Ok l
+      → IsRead x × (table_to place l (after_walk k (w next)) ≡ Ok l)
+  by_constant name p next k w (Ok c) e = (tt, e)
+  by_constant name p next k w (Err why) e = let z : ◌≡◌ {A = ℕ} 0 1 = cc in absurd (omega arith)
 
   -- its name, read as a string is
-  name_read : (p z : ℕ) → p + 5 ≤ length b → end_of b (l.strings + be32 b (p + 1)) ≡ At z → IsRead (cell_at b 0x0A (p + 1) l)
+  name_read : (p z : ℕ) → p + 5 ≤ length b → end_of b (l.strings + be32 b (p + 1)) ≡ Some z → IsRead (cell_at b 0x0A (p + 1) l)
   unfolding cell_at value_at
   name_read p z room e = rw (le-leb (p + 1 + 4) (length b) (omega arith), e) tt
 
@@ -53,21 +50,21 @@ module _ (place : ℕ) (l : Layout) (b : List ℕ) where
     abbrev name : ℕ
     name = l.strings + be32 b (p + 1)
 
-    by_name : p + 5 ≤ length b → (k w : _) (x : Ending) → end_of b name ≡ x → table_to place l (after_walk k (after_column w (named b p name l x))) ≡ Table l
-        → IsRead (cell_at b 0x0A (p + 1) l) × IsRead (constant p) × (table_to place l (after_walk k (w (p + in_record l.mode (at b p)))) ≡ Table l)
+    by_name : p + 5 ≤ length b → (k w : _) (x : Option ℕ) → end_of b name ≡ x → table_to place l (after_walk k (after_column w (named b p name l x))) ≡ Ok l
+        → IsRead (cell_at b 0x0A (p + 1) l) × IsRead (constant p) × (table_to place l (after_walk k (w (p + in_record l.mode (at b p)))) ≡ Ok l)
     unfolding named column_from
-    by_name room k w (At z) f e =
+    by_name room k w (Some z) f e =
         let follows = by_constant name p (p + in_record l.mode (at b p)) k w (constant p) e in
         (name_read p z room f, follows.0, follows.1)
-    by_name room k w Endless f e = let z : ◌≡◌ {A = ℕ} 0 1 = cc in absurd (omega arith)
+    by_name room k w None f e = let z : ◌≡◌ {A = ℕ} 0 1 = cc in absurd (omega arith)
 
-    by_room : (k w : _) (t : Bool) → leb (p + 5) (length b) ≡ t → table_to place l (after_walk k (after_column w (cond t (named b p name l (end_of b name)) (NoColumn RanOut)))) ≡ Table l
-        → IsRead (cell_at b 0x0A (p + 1) l) × IsRead (constant p) × (table_to place l (after_walk k (w (p + in_record l.mode (at b p)))) ≡ Table l)
+    by_room : (k w : _) (t : Bool) → leb (p + 5) (length b) ≡ t → table_to place l (after_walk k (after_column w (cond t (named b p name l (end_of b name)) (Err RanOut)))) ≡ Ok l
+        → IsRead (cell_at b 0x0A (p + 1) l) × IsRead (constant p) × (table_to place l (after_walk k (w (p + in_record l.mode (at b p)))) ≡ Ok l)
     by_room k w true t e = by_name (leb-true (p + 5) (length b) t) k w (end_of b name) refl e
     by_room k w false t e = let z : ◌≡◌ {A = ℕ} 0 1 = cc in absurd (omega arith)
 
-    column_read : (k w : _) → table_to place l (after_walk k (after_column w (column_at b p l))) ≡ Table l
-        → IsRead (cell_at b 0x0A (p + 1) l) × IsRead (constant p) × (table_to place l (after_walk k (w (p + in_record l.mode (at b p)))) ≡ Table l)
+    column_read : (k w : _) → table_to place l (after_walk k (after_column w (column_at b p l))) ≡ Ok l
+        → IsRead (cell_at b 0x0A (p + 1) l) × IsRead (constant p) × (table_to place l (after_walk k (w (p + in_record l.mode (at b p)))) ≡ Ok l)
     unfolding column_at
     column_read k w e = by_room k w (leb (p + 5) (length b)) refl e
 
@@ -78,8 +75,8 @@ module _ (place : ℕ) (l : Layout) (b : List ℕ) where
   ConstantsAreRead zero p = Unit
   ConstantsAreRead (suc n) p = IsRead (constant p) × ConstantsAreRead n (p + in_record l.mode (at b p))
 
-  columns_read : (n p q : ℕ) (k : _) → table_to place l (after_walk k (columns_from b l n p)) ≡ Table l
-      → LineIsRead b l Names n p q × ConstantsAreRead n p × ((r : ℕ) × (table_to place l (k r) ≡ Table l))
+  columns_read : (n p q : ℕ) (k : _) → table_to place l (after_walk k (columns_from b l n p)) ≡ Ok l
+      → LineIsRead b l Names n p q × ConstantsAreRead n p × ((r : ℕ) × (table_to place l (k r) ≡ Ok l))
   unfolding columns_from LineIsRead ConstantsAreRead
   columns_read zero p q k e = (tt, tt, (p, e))
   columns_read (suc n) p q k e =
@@ -89,13 +86,13 @@ module _ (place : ℕ) (l : Layout) (b : List ℕ) where
 
   -- ---- rows
 
-  by_cell : (k w : _) (x : CellAnswer) → table_to place l (after_walk k (after_cell w x)) ≡ Table l → IsRead x × (table_to place l (after_walk k w) ≡ Table l)
-  by_cell k w (Got c) e = (tt, e)
-  by_cell k w (Refused why) e = let z : ◌≡◌ {A = ℕ} 0 1 = cc in absurd (omega arith)
+  by_cell : (k w : _) (x : Result Cell Cause) → table_to place l (after_walk k (after_cell w x)) ≡ Ok l → IsRead x × (table_to place l (after_walk k w) ≡ Ok l)
+  by_cell k w (Ok c) e = (tt, e)
+  by_cell k w (Err why) e = let z : ◌≡◌ {A = ℕ} 0 1 = cc in absurd (omega arith)
 
-  held : (x : CellAnswer) → IsRead x → IsRead (with_constant (λ c. Got c) x)
-  held (Got c) h = tt
-  held (Refused why) h = h
+  held : (x : Result Cell Cause) → IsRead x → IsRead (with_constant (λ c. Ok c) x)
+  held (Ok c) h = tt
+  held (Err why) h = h
 
   by_storage : (s : Storage) (kind p q : ℕ) → IsRead (constant_at b s kind p l) → IsRead (cell_in b s Nothing kind q l)
       → IsRead (with_constant (λ c. cell_in b s c kind q l) (constant_at b s kind p l))
@@ -104,8 +101,8 @@ module _ (place : ℕ) (l : Layout) (b : List ℕ) where
   by_storage Zero kind p q h g = g
   by_storage Unknown kind p q h g = h
 
-  row_read : (n p q : ℕ) (k : _) → ConstantsAreRead n p → table_to place l (after_walk k (row_from b l n p q)) ≡ Table l
-      → LineIsRead b l Cells n p q × (table_to place l (k (row_end b l n p q)) ≡ Table l)
+  row_read : (n p q : ℕ) (k : _) → ConstantsAreRead n p → table_to place l (after_walk k (row_from b l n p q)) ≡ Ok l
+      → LineIsRead b l Cells n p q × (table_to place l (k (row_end b l n p q)) ≡ Ok l)
   unfolding row_from LineIsRead ConstantsAreRead row_cell row_end
   row_read zero p q k c e = (tt, e)
   row_read (suc n) p q k c e =
@@ -115,14 +112,14 @@ module _ (place : ℕ) (l : Layout) (b : List ℕ) where
       let rest = row_read n (p + in_record l.mode (at b p)) (q + in_row l.mode (at b p)) k c.1 cell.1 in
       ((by_storage s (at b p % 16) (p + 5) q c.0 cell.0, rest.0), rest.1)
 
-  rows_read : ConstantsAreRead l.columns 0 → (n q : ℕ) → table_to place l (rows_from b l n q) ≡ Table l → RowsAreRead b l n q
+  rows_read : ConstantsAreRead l.columns 0 → (n q : ℕ) → table_to place l (rows_from b l n q) ≡ Ok l → RowsAreRead b l n q
   unfolding rows_from RowsAreRead
   rows_read c zero q e = tt
   rows_read c (suc n) q e =
       let row = row_read l.columns 0 q (rows_from b l n) c e in
       (row.0, rows_read c n (row_end b l l.columns 0 q) row.1)
 
-  pub all_read : table_to place l (walk_of b l) ≡ Table l → LineIsRead b l Names l.columns 0 0 × RowsAreRead b l l.rows l.start
+  pub all_read : table_to place l (walk_of b l) ≡ Ok l → LineIsRead b l Names l.columns 0 0 × RowsAreRead b l l.rows l.start
   unfolding walk_of
   all_read e =
       let columns = columns_read l.columns 0 0 (λ p. rows_from b l l.rows l.start) e in

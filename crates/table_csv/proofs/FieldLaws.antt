@@ -2,7 +2,7 @@
 use mathlib.Core.Path.{◌≡◌, refl, subst}
 use mathlib.Core.List.{List, [], ◌∷◌, ◌++◌}
 use mathlib.Core.Bool.{Bool, true, false}
-use Prim.Native.Nat.{ℕ, zero, suc, ◌+◌, ◌-◌, ◌≤◌, ◌<◌}
+use Prim.Native.Nat.{ℕ, zero, suc, ◌+◌, ◌≤◌, ◌<◌}
 use native.Mathlib.Numerals.{add-one}
 use native.Mathlib.Nat.{not-suc-le-zero}
 use native.Mathlib.Omega.{arith}
@@ -17,8 +17,6 @@ use mir.Facts.{to_z-of_z}
 use borrow.Author.Tests.{eq-eqb, ne_eqb, ltb-true}
 use Rattle.laws.specs.Lists.{at}
 use Rattle.text.specs.Numbers.{decimal}
-use Rattle.cell.specs.Cells.{bits_of}
-use Rattle.cell.proofs.SignLaws.{flipped_bits, kept_bits}
 use Rattle.csv_text.specs.Written.{quote, comma, cr, lf, escaped, doubled, mark_after}
 use Rattle.table_csv.specs.Texts.{signed_text}
 
@@ -50,21 +48,21 @@ mark_between (suc more) e = refl
 
 -- ---- a number by its sign
 
-negative : (z : ℤ) (n : ℕ) → lt_z z (pos 0) ≡ true → ((top : ℕ) → top - n ≡ bits_of z top) → (0x2D ∷ []) ++ decimal (n + 1) ≡ signed_text z
+negative : (z : ℤ) (n : ℕ) → lt_z z (pos 0) ≡ true → n ≡ nat_abs z → (0x2D ∷ []) ++ decimal n ≡ signed_text z
 unfolding signed_text
 negative (pos m) n h e = absurd (not-suc-le-zero (ltb-true m 0 h))
 negative (negsuc k) n h e =
-    let same : n ≡ k = omega (arith, e n, e k) in
+    let same : n ≡ k + 1 = omega (arith, e) in
     rw same
 
-other : (z : ℤ) (n : ℕ) → lt_z z (pos 0) ≡ false → n ≡ bits_of z 0 → decimal n ≡ signed_text z
+other : (z : ℤ) (n : ℕ) → lt_z z (pos 0) ≡ false → n ≡ nat_abs z → decimal n ≡ signed_text z
 unfolding signed_text
 other (pos m) n h e = rw e
 other (negsuc k) n h e = absurd (subst (λ (b : Bool). T b) h tt)
 
-module _ (z : ℤ) (f : SFits w32 z) where
-  pub negative_text : lt_z (to_z w32 (of_z w32 z)) (pos 0) ≡ true → (0x2D ∷ []) ++ decimal (nat_abs (to_z w32 (0xFFFFFFFF - of_z w32 z)) + 1) ≡ signed_text z
-  negative_text h = negative z _ (rw (to_z-of_z f) at h) (λ top. flipped_bits z f top h)
+module _ (z : ℤ) (f : SFits w32 z) (n : ℕ) (size : n ≡ nat_abs z) where
+  pub negative_text : lt_z (to_z w32 (of_z w32 z)) (pos 0) ≡ true → (0x2D ∷ []) ++ decimal n ≡ signed_text z
+  negative_text h = negative z n (rw (to_z-of_z f) at h) size
 
-  pub other_text : lt_z (to_z w32 (of_z w32 z)) (pos 0) ≡ false → decimal (nat_abs (to_z w32 (of_z w32 z))) ≡ signed_text z
-  other_text h = other z _ (rw (to_z-of_z f) at h) (kept_bits z f 0 h)
+  pub other_text : lt_z (to_z w32 (of_z w32 z)) (pos 0) ≡ false → decimal n ≡ signed_text z
+  other_text h = other z n (rw (to_z-of_z f) at h) size

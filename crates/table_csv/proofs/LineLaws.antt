@@ -1,5 +1,8 @@
 -- Lines and rows, one more column or row at a time: what is left of a line is its next field, what stands after that, and the rest. And how long
 -- they are: a body has less than 2 ^ 32 bytes, so a field has less than 2 ^ 34, and a table of 64 columns and 256 rows less than 2 ^ 49. Assumes nothing.
+use Rattle.std.specs.Prelude.{Result}
+use Rattle.cell.specs.declared.Cell.{Cell}
+use Rattle.refusal.specs.declared.Cause.{Cause}
 use mathlib.Core.Path.{◌≡◌, refl, ap, ◌∙◌}
 use mathlib.Core.List.{List, [], ◌∷◌, ◌++◌}
 use mathlib.Core.Bool.{Bool, true, false, cond}
@@ -12,7 +15,6 @@ use Rattle.laws.specs.Lists.{at}
 use Rattle.laws.specs.Outputs.{Put}
 use Rattle.laws.proofs.PutLaws.{Left}
 use Rattle.layout.specs.declared.Layout.{Layout}
-use Rattle.cell.specs.declared.CellAnswer.{CellAnswer}
 use Rattle.column.specs.Storages.{in_record, in_row}
 use Rattle.csv_text.specs.Written.{field_of, mark_after, record_of, csv_of}
 use Rattle.table_csv.specs.declared.Line.{Line}
@@ -39,7 +41,7 @@ module _ (b : List ℕ) (l : Layout) where
     unfolding line_from record_of
     one_more n p q = rw (line_length_lem n (p + in_record l.mode (at b p)) (q + in_row l.mode (at b p)))
 
-    module _ (p q : ℕ) (answer : CellAnswer) (tag r s : ℕ) (cell : answer ≡ cell_on b l line p q) (read : tag ≡ at b p) (in-record : r ≡ in_record l.mode tag)
+    module _ (p q : ℕ) (answer : Result Cell Cause) (tag r s : ℕ) (cell : answer ≡ cell_on b l line p q) (read : tag ≡ at b p) (in-record : r ≡ in_record l.mode tag)
         (in_row_lem : s ≡ in_row l.mode tag) where
       pub line-next : (n : ℕ) → 0 < n → record_of (line_from b l line n p q) ≡ field_of (text_in b answer) ++ (mark_after (n - 1) ++ record_of (line_from b l line (n - 1) (p + r) (q + s)))
       line-next zero h = absurd (omega arith)

@@ -1,5 +1,7 @@
 -- The promises of specs/Promises.antt, each under its name: what was written stands at the front of the output, and the RFC's reader gives back its records; and
 -- a walk that reads to its end has no cell that is refused. Assumes nothing.
+use Rattle.std.specs.Prelude.{Result, Ok, Err}
+use Rattle.refusal.specs.declared.Refusal.{Refusal}
 use mathlib.Core.Path.{◌≡◌, refl, sym, ap, ◌∙◌}
 use mathlib.Core.List.{List, [], ◌∷◌}
 use mathlib.Core.Bool.{Bool, true, false, cond}
@@ -9,13 +11,10 @@ use lib.ListN.{length, take, drop}
 use lib.Seq.{sets-eq, length-sets, take_at, drop_at}
 use lib.Dec.{eqb}
 use borrow.Author.Tests.{eqb-false}
-use Rattle.lent.specs.declared.Written.TheVariants.{Size}
 use Rattle.lent.proofs.RoomLaws.{planned_so}
 use Rattle.reading.specs.declared.TableMode.{TableMode}
 use Rattle.layout.specs.declared.Layout.{Layout}
 use Rattle.layout.specs.Layouts.{body_of}
-use Rattle.table.specs.declared.TableAnswer.{TableAnswer}
-use Rattle.table.specs.declared.TableAnswer.TheVariants.{Table, NoTable}
 use Rattle.table.specs.Tables.{table_of, table_at}
 use Rattle.table.proofs.TableLaws.{laid_out}
 use Rattle.csv_text.specs.Written.{csv_of}
@@ -52,10 +51,10 @@ module _ (b : List ℕ) (l : Layout) where
           let some : l.columns ≡ 0 → ⊥ = eqb-false l.columns 0 e in
           line_some Names l.columns 0 0 (row_texts b l l.rows l.start) some (rows_some some l.rows l.start)
 
-in_some : (t : List ℕ) (x : TableAnswer) → SomeInEach (texts_in t x)
+in_some : (t : List ℕ) (x : Result Layout Refusal) → SomeInEach (texts_in t x)
 unfolding SomeInEach
-in_some t (Table l) = texts_some (body_of t l) l
-in_some t (NoTable refusal) = tt
+in_some t (Ok l) = texts_some (body_of t l) l
+in_some t (Err refusal) = tt
 
 at_some : (bytes : List ℕ) (place : ℕ) (m : TableMode) → SomeInEach (texts_at bytes place m)
 unfolding texts_at
@@ -63,9 +62,9 @@ at_some bytes place m = in_some (drop place bytes) (table_at bytes place m)
 
 -- ---- a size that is answered is that of the CSV, which has room
 
-to_write_lem : (n size : ℕ) (x : TableAnswer) → to_write n x ≡ Size size → n ≡ size
-to_write_lem n size (Table l) e = cc
-to_write_lem n size (NoTable refusal) e = let z : ◌≡◌ {A = ℕ} 0 1 = cc in absurd (omega arith)
+to_write_lem : (n size : ℕ) (x : Result Layout Refusal) → to_write n x ≡ Ok size → n ≡ size
+to_write_lem n size (Ok l) e = cc
+to_write_lem n size (Err refusal) e = let z : ◌≡◌ {A = ℕ} 0 1 = cc in absurd (omega arith)
 
 pub ReadingBack : promised.ReadingBack
 ReadingBack bytes place m out out' size w =

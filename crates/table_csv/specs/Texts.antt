@@ -1,5 +1,6 @@
 -- Rules V: the texts of a table, name by name and cell by cell. b is the table's body, l its layout.
-use Rattle.std.specs.Prelude.{ℕ, zero, suc, ◌+◌, ◌%◌, List, [], ◌∷◌, cond, eqb, ℤ, pos, negsuc}
+use Rattle.std.specs.Prelude.{ℕ, zero, suc, ◌+◌, ◌%◌, List, [], ◌∷◌, cond, eqb, ℤ, pos, negsuc, Result, Ok, Err}
+use Rattle.refusal.specs.declared.Cause.{Cause}
 use Rattle.std.specs.Float.{binary32}
 use Rattle.std.specs.Float.Ieee.{to_bits}
 use Rattle.laws.specs.Lists.{at}
@@ -8,8 +9,6 @@ use Rattle.text.specs.Numbers.{decimal, hex, hex_bytes}
 use Rattle.layout.specs.declared.Layout.{Layout}
 use Rattle.cell.specs.declared.Cell.{Cell}
 use Rattle.cell.specs.declared.Cell.TheVariants.{Nothing, Unsigned, Signed, Float, NotANumber, Text, Data}
-use Rattle.cell.specs.declared.CellAnswer.{CellAnswer}
-use Rattle.cell.specs.declared.CellAnswer.TheVariants.{Got, Refused}
 use Rattle.cell.specs.Cells.{cell_at}
 use Rattle.column.specs.Storages.{storage_of, in_record, in_row, constant_at, cell_in}
 use Rattle.table_csv.specs.declared.Line.{Line}
@@ -31,21 +30,21 @@ text_of b (Text start len) = part_at b start len
 text_of b (Data start len) = hex_bytes (part_at b start len)
 
 -- the text of a cell that is read. A table that is accepted has no other, as `EveryCellIsRead` says
-abbrev pub text_in : List ℕ → CellAnswer → List ℕ
-text_in b (Got c) = text_of b c
-text_in b (Refused why) = []
+abbrev pub text_in : List ℕ → Result Cell Cause → List ℕ
+text_in b (Ok c) = text_of b c
+text_in b (Err why) = []
 
-abbrev pub with_constant : (Cell → CellAnswer) → CellAnswer → CellAnswer
-with_constant k (Got c) = k c
-with_constant k (Refused why) = Refused why
+abbrev pub with_constant : (Cell → Result Cell Cause) → Result Cell Cause → Result Cell Cause
+with_constant k (Ok c) = k c
+with_constant k (Err why) = Err why
 
 -- the cell of the column whose record stands at body byte p, in a row where it has its bytes at body byte q
-unfoldable pub row_cell : List ℕ → Layout → ℕ → ℕ → CellAnswer
+unfoldable pub row_cell : List ℕ → Layout → ℕ → ℕ → Result Cell Cause
 row_cell b l p q =
     with_constant (λ c. cell_in b (storage_of l.mode (at b p)) c (at b p % 16) q l) (constant_at b (storage_of l.mode (at b p)) (at b p % 16) (p + 5) l)
 
 -- what a column shows on a line. Its name is read as a string is, by the offset after the type byte: "names and strings lie at string offset + their own offset"
-abbrev pub cell_on : List ℕ → Layout → Line → ℕ → ℕ → CellAnswer
+abbrev pub cell_on : List ℕ → Layout → Line → ℕ → ℕ → Result Cell Cause
 cell_on b l Names p q = cell_at b 0x0A (p + 1) l
 cell_on b l Cells p q = row_cell b l p q
 

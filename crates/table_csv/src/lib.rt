@@ -4,22 +4,19 @@
 // The work is in proportion to the table and its CSV. A column's name is read once, and not again for each row.
 #![tactic(auto)]
 
-ghost use Rattle.std.specs.Prelude.{◌≡◌, ◌+◌, ◌≤◌, ◌<◌, ◌^◌, length, drop};
+ghost use Rattle.std.specs.Prelude.{◌≡◌, ◌+◌, ◌≤◌, ◌<◌, ◌^◌, length, drop, Ok};
 ghost use Rattle.laws.specs.Outputs.{Put};
 ghost use Rattle.text.specs.Numbers.{decimal, hex, hex_bytes};
 ghost use Rattle.layout.specs.Layouts.{body_of};
 ghost use Rattle.csv_text.specs.Written.{escaped, doubled, field_of, mark_after, record_of, csv_of};
-ghost use Rattle.table.specs.declared.TableAnswer.TheVariants.{Table};
 ghost use Rattle.table_csv.specs.Texts.{signed_text, text_of, text_in, row_cell, cell_on, line_from, row_end, row_texts, texts_of};
 ghost use Rattle.table_csv.specs.Writing.{WritingOf, Writing};
 
-use cell::{Cell, CellAnswer};
+use cell::Cell;
 use column::Storage;
 use layout::Layout;
-use lent::Written;
 use reading::TableMode;
-use refusal::Cause;
-use table::TableAnswer;
+use refusal::{Cause, Refusal};
 
 // What a line shows of its columns: their names, or their cells in a row.
 #[derive(Clone, Copy)]
@@ -53,8 +50,7 @@ fn put_escaped(out: &mut [u8], place: usize, byte: u8) -> usize
     if byte == b'"' {
         return put(out, place, b"\"\"");
     }
-    let one = [byte];
-    put(out, place, &one)
+    put(out, place, &[byte])
 }
 
 // Puts what stands within a field's quotes.
@@ -63,11 +59,8 @@ fn put_doubled(out: &mut [u8], place: usize, field: &[u8]) -> usize
     ensures { Put (doubled field.now) out.old place out.new result }
 {
     let mut end = place;
-    let mut i = 0;
-    while i < field.len() {
-        let next = put_escaped(out, end, field[i]);
-        end = next;
-        i += 1;
+    for byte in field {
+        end = put_escaped(out, end, *byte);
     }
     end
 }
@@ -100,9 +93,9 @@ fn put_signed(out: &mut [u8], place: usize, number: i32) -> usize
 {
     if number < 0 {
         let at = put(out, place, b"-");
-        return put_number(out, at, ((!number) as u64) + 1);
+        return put_number(out, at, u64::from(number.unsigned_abs()));
     }
-    put_number(out, place, number as u64)
+    put_number(out, place, u64::from(number.unsigned_abs()))
 }
 
 // Puts a float's bits in eight hex digits.
@@ -134,19 +127,19 @@ fn put_cell(out: &mut [u8], place: usize, body: &[u8], cell: Cell) -> usize
         Cell::Signed(number) => put_signed(out, place, number),
         Cell::Float(_) => put_float(out, place, cell::value_of(cell)),
         Cell::NotANumber(_) => put_float(out, place, cell::value_of(cell)),
-        Cell::Text { start: _, len: _ } => put_field(out, place, cell::part_of(body, cell)),
-        Cell::Data { start: _, len: _ } => put_data(out, place, cell::part_of(body, cell)),
+        Cell::Text { .. } => put_field(out, place, cell::part_of(body, cell)),
+        Cell::Data { .. } => put_data(out, place, cell::part_of(body, cell)),
     }
 }
 
 // The same of a cell that is read. A table that is accepted has no other.
-fn put_answer(out: &mut [u8], place: usize, body: &[u8], answer: CellAnswer) -> usize
+fn put_answer(out: &mut [u8], place: usize, body: &[u8], answer: Result<Cell, Cause>) -> usize
     requires { place + length (field_of (text_in body.now answer)) < 2 ^ 64 }
     ensures { Put (field_of (text_in body.now answer)) out.old place out.new result }
 {
     match answer {
-        CellAnswer::Got(cell) => put_cell(out, place, body, cell),
-        CellAnswer::Refused(_) => place,
+        Ok(cell) => put_cell(out, place, body, cell),
+        Err(_) => place,
     }
 }
 
@@ -162,18 +155,17 @@ fn put_mark(out: &mut [u8], place: usize, more: usize) -> usize
 }
 
 // The cell of the column whose record stands at a body byte, in a row where it has its bytes at one.
-fn row_cell(body: &[u8], entry: usize, at: usize, layout: Layout) -> CellAnswer
+fn row_cell(body: &[u8], entry: usize, at: usize, layout: Layout) -> Result<Cell, Cause>
     requires { entry < 2 ^ 32 }
     ensures { result ≡ row_cell body.now layout entry at }
 {
     let tag = word::read8(body, entry);
     let kind = column::kind_of(tag);
-    let mode = layout.mode;
-    match column::storage_of(tag, mode) {
+    match column::storage_of(tag, layout.mode) {
         Storage::Constant => cell::read_cell(body, kind, entry + column::RECORD, layout),
         Storage::Stored => cell::read_cell(body, kind, at, layout),
         Storage::Zero => cell::zero_cell(kind),
-        Storage::Unknown => CellAnswer::Refused(Cause::UnknownStorage),
+        Storage::Unknown => Err(Cause::UnknownStorage),
     }
 }
 
@@ -181,7 +173,7 @@ fn row_cell(body: &[u8], entry: usize, at: usize, layout: Layout) -> CellAnswer
 const STRING: u8 = 0x0A;
 
 // What such a column shows on a line. Its name is read as a string is, by the offset after the type byte.
-fn cell_on(body: &[u8], line: Line, entry: usize, at: usize, layout: Layout) -> CellAnswer
+fn cell_on(body: &[u8], line: Line, entry: usize, at: usize, layout: Layout) -> Result<Cell, Cause>
     requires { entry < 2 ^ 32 }
     ensures { result ≡ cell_on body.now layout line entry at }
 {
@@ -205,19 +197,15 @@ fn put_line(
     requires { (layout.columns ≤ 64) × (from < 2 ^ 40) × (place + length (record_of (line_from body.now layout line layout.columns 0 from)) < 2 ^ 64) }
     ensures { (Put (record_of (line_from body.now layout line layout.columns 0 from)) out.old place out.new result.end) × ((result.next ≡ row_end body.now layout layout.columns 0 from) × (result.next ≤ from + 16384)) }
 {
-    let mut left = layout.columns;
     let mut entry = 0;
     let mut at = from;
     let mut end = place;
-    while 0 < left {
-        left -= 1;
+    for i in 0..layout.columns {
         let middle = put_answer(out, end, body, cell_on(body, line, entry, at, layout));
-        let after = put_mark(out, middle, left);
-        end = after;
+        end = put_mark(out, middle, layout.columns - i - 1);
         let tag = word::read8(body, entry);
-        let mode = layout.mode;
-        entry = entry + column::in_record(tag, mode);
-        at = at + column::in_row(tag, mode);
+        entry += column::in_record(tag, layout.mode);
+        at += column::in_row(tag, layout.mode);
     }
     Ends { end, next: at }
 }
@@ -227,16 +215,14 @@ fn put_rows(out: &mut [u8], place: usize, body: &[u8], layout: Layout) -> usize
     requires { (layout.columns ≤ 64) × (layout.rows ≤ 256) × (place + length (csv_of (row_texts body.now layout layout.rows layout.start)) < 2 ^ 64) }
     ensures { Put (csv_of (row_texts body.now layout layout.rows layout.start)) out.old place out.new result }
 {
-    let mut left = layout.rows;
     let mut at = layout.start as usize;
-    let mut end = place;
-    while 0 < left {
-        let ends = put_line(out, end, body, Line::Cells, at, layout);
-        end = ends.end;
+    let mut reached = place;
+    for _ in 0..layout.rows {
+        let ends = put_line(out, reached, body, Line::Cells, at, layout);
+        reached = ends.end;
         at = ends.next;
-        left -= 1;
     }
-    end
+    reached
 }
 
 // Puts the CSV of a table at the start of the output, as far as that goes, and answers how long it is.
@@ -251,25 +237,21 @@ fn put_table(out: &mut [u8], body: &[u8], layout: Layout) -> usize
 // ---- the table
 
 // Writes a table of a layout: it is measured, and put where it has room.
-fn write_body(body: &[u8], layout: Layout, out: &mut [u8]) -> Written
+fn write_body(body: &[u8], layout: Layout, out: &mut [u8]) -> Result<usize, Refusal>
     requires { (layout.columns ≤ 64) × (layout.rows ≤ 256) × (length body.now < 2 ^ 32) }
-    ensures { WritingOf (csv_of (texts_of body.now layout)) (Table layout) out.old result out.new }
+    ensures { WritingOf (csv_of (texts_of body.now layout)) (Ok layout) out.old result out.new }
 {
     let mut none = [0u8; 0];
     let size = put_table(&mut none, body, layout);
-    match lent::written_in(out.len(), Written::Size(size)) {
-        Written::Size(size) => {
-            put_table(out, body, layout);
-            Written::Size(size)
-        }
-        Written::Refused(refusal) => Written::Refused(refusal),
-    }
+    let size = lent::written_in(out.len(), Ok(size))?;
+    put_table(out, body, layout);
+    Ok(size)
 }
 
 // The same of a table that was read, at a place of a slice.
-fn write_table(bytes: &[u8], place: usize, layout: Layout, out: &mut [u8]) -> Written
+fn write_table(bytes: &[u8], place: usize, layout: Layout, out: &mut [u8]) -> Result<usize, Refusal>
     requires { ((layout.columns ≤ 64) × (layout.rows ≤ 256) × (layout.size < 2 ^ 32)) × (place + (32 + layout.size) ≤ length bytes.now) }
-    ensures { WritingOf (csv_of (texts_of (body_of (drop place bytes.now) layout) layout)) (Table layout) out.old result out.new }
+    ensures { WritingOf (csv_of (texts_of (body_of (drop place bytes.now) layout) layout)) (Ok layout) out.old result out.new }
 {
     let by = place + layout::HEADER;
     let end = by + layout.size;
@@ -277,11 +259,14 @@ fn write_table(bytes: &[u8], place: usize, layout: Layout, out: &mut [u8]) -> Wr
 }
 
 // Writes the table at a place of a slice, read in a mode, as CSV into an output, and answers its size. Bytes past it stay; a refusal leaves the output as it was.
-pub fn write_csv(bytes: &[u8], place: usize, mode: TableMode, out: &mut [u8]) -> Written
+pub fn write_csv(
+    bytes: &[u8],
+    place: usize,
+    mode: TableMode,
+    out: &mut [u8],
+) -> Result<usize, Refusal>
     ensures { Writing bytes.now place mode out.old result out.new }
 {
-    match table::read_table(bytes, place, mode) {
-        TableAnswer::Table(layout) => write_table(bytes, place, layout, out),
-        TableAnswer::NoTable(refusal) => Written::Refused(refusal),
-    }
+    let layout = table::read_table(bytes, place, mode)?;
+    write_table(bytes, place, layout, out)
 }

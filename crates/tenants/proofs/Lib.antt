@@ -1,4 +1,4 @@
-pub mod LoopLaws
+pub mod ChainLaws
 pub mod PortionLaws
 pub mod CountLaws
 pub mod RisingLaws

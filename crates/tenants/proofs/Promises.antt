@@ -2,15 +2,14 @@
 use Prim.Native.Nat.{ℕ, zero, suc, ◌+◌, ◌≤◌, ◌<◌}
 use mathlib.Core.Path.{◌≡◌, refl, sym, ◌∙◌}
 use mathlib.Core.Logic.{⊎_elim}
-use mathlib.Core.Bool.{Bool, true, false, cond, ◌||◌}
+use mathlib.Core.Bool.{Bool, true, false, ◌||◌}
 use mathlib.Core.List.{List, [], ◌∷◌}
 use native.Mathlib.Omega.{arith}
 use lib.ListN.{length, get_or}
 use lib.Dec.{ltb, eqb}
 use borrow.Author.Tests.{le-ltb, eq-eqb, ne_eqb, ltb-false, eqb-true, eqb-false}
 use Rattle.laws.proofs.Side.{side}
-use Rattle.tenants.specs.declared.Pick.TheVariants.{Numbered}
-use Rattle.tenants.specs.Tenants.{number_in, picked, counted, is_repeated, repeated, are_bad}
+use Rattle.tenants.specs.Tenants.{number_in, counted, is_repeated, repeated, has_number}
 use Rattle.tenants.specs.Promises as promised
 use Rattle.tenants.specs.Promises.{OneToSixteen}
 use Rattle.tenants.proofs.RisingLaws.{Distinct, distinct}
@@ -24,7 +23,7 @@ all_false false false c e = (refl, refl, e)
 
 module _ (number : ℕ) where
   abbrev times : List (List ℕ) → ℕ
-  times ts = counted (picked (Numbered number)) ts
+  times ts = counted (has_number number) ts
 
   its_own : (t : List ℕ) (ts : List (List ℕ)) → number_in t ≡ number → times (t ∷ ts) ≡ 1 + times ts
   unfolding counted
@@ -62,7 +61,7 @@ unfolding counted
 of_different [] d number = omega arith
 of_different (t ∷ ts) d number = by_own (of_different ts (λ i j l h f. d (suc i) (suc j) (omega arith) (omega arith) f) number) (eqb (number_in t) number) refl
   where
-    by_own : counted (picked (Numbered number)) ts ≤ 1 → (b : Bool) → eqb (number_in t) number ≡ b → counted (picked (Numbered number)) (t ∷ ts) ≤ 1
+    by_own : counted (has_number number) ts ≤ 1 → (b : Bool) → eqb (number_in t) number ≡ b → counted (has_number number) (t ∷ ts) ≤ 1
     by_own rest true e =
         let none = not_there number ts (λ j h f. d 0 (suc j) (omega arith) (omega arith) (eqb-true (number_in t) number e ∙ sym f)) in
         rw (e, none) (omega arith)
@@ -71,7 +70,7 @@ of_different (t ∷ ts) d number = by_own (of_different ts (λ i j l h f. d (suc
 none_repeated : (ts : List (List ℕ)) → Distinct ts → (s : List (List ℕ)) → counted (is_repeated ts) s ≡ 0
 unfolding counted
 none_repeated ts d [] = refl
-none_repeated ts d (t ∷ s) = rw (le-ltb 1 (counted (picked (Numbered (number_in t))) ts) (d (number_in t)), none_repeated ts d s)
+none_repeated ts d (t ∷ s) = rw (le-ltb 1 (counted (has_number (number_in t)) ts) (d (number_in t)), none_repeated ts d s)
 
 -- ---- the promise
 

@@ -11,41 +11,40 @@ use lib.ListN.{length, get_or}
 use lib.Dec.{ltb, eqb}
 use borrow.Author.Tests.{lt-ltb, le-ltb, eq-eqb, ne_eqb, ltb-true, ltb-false, eqb-true}
 use Rattle.laws.proofs.Side.{side}
-use Rattle.tenants.specs.declared.Pick.TheVariants.{Numbered, Below}
-use Rattle.tenants.specs.Tenants.{number_in, picked, counted, is_repeated, repeated, first_of, has_rank, ranked}
+use Rattle.tenants.specs.Tenants.{number_in, counted, is_repeated, repeated, first_of, has_rank, ranked, has_number, is_below}
 use Rattle.tenants.specs.Shares.{line_of, line_at, lines_from}
-use Rattle.tenants.proofs.LoopLaws.{at_most_one}
+use Rattle.tenants.proofs.ChainLaws.{at_most_one}
 use Rattle.tenants.proofs.CountLaws.{same_count, same_first, perm_length, perm_count, perm_first, only_one}
 
 -- ---- no number stands twice
 
 abbrev pub Distinct : List (List ℕ) → Type 0
-Distinct ts = (number : ℕ) → counted (picked (Numbered number)) ts ≤ 1
+Distinct ts = (number : ℕ) → counted (has_number number) ts ≤ 1
 
 not_repeated : (ts s : List (List ℕ)) → counted (is_repeated ts) s ≡ 0 → (number : ℕ)
-    → (counted (picked (Numbered number)) s ≡ 0) ⊎ (counted (picked (Numbered number)) ts ≤ 1)
+    → (counted (has_number number) s ≡ 0) ⊎ (counted (has_number number) ts ≤ 1)
 unfolding counted
 not_repeated ts [] e number = inl refl
 not_repeated ts (t ∷ s) e number = by_repeated (λ (f : counted (is_repeated ts) s ≡ 0). not_repeated ts s f number) (is_repeated ts t) refl (eqb (number_in t) number) refl
   where
-    by_repeated : (counted (is_repeated ts) s ≡ 0 → (counted (picked (Numbered number)) s ≡ 0) ⊎ (counted (picked (Numbered number)) ts ≤ 1))
+    by_repeated : (counted (is_repeated ts) s ≡ 0 → (counted (has_number number) s ≡ 0) ⊎ (counted (has_number number) ts ≤ 1))
         → (b : Bool) → is_repeated ts t ≡ b → (q : Bool) → eqb (number_in t) number ≡ q
-        → (counted (picked (Numbered number)) (t ∷ s) ≡ 0) ⊎ (counted (picked (Numbered number)) ts ≤ 1)
+        → (counted (has_number number) (t ∷ s) ≡ 0) ⊎ (counted (has_number number) ts ≤ 1)
     by_repeated rest true r q n = let z : cond (is_repeated ts t) 1 0 + counted (is_repeated ts) s ≡ 1 + counted (is_repeated ts) s = rw r in absurd (omega arith)
-    by_repeated rest false r true n = inr (rw (sym (eqb-true (number_in t) number n)) (ltb-false 1 (counted (picked (Numbered (number_in t))) ts) r))
+    by_repeated rest false r true n = inr (rw (sym (eqb-true (number_in t) number n)) (ltb-false 1 (counted (has_number (number_in t)) ts) r))
     by_repeated rest false r false n =
         let z : cond (is_repeated ts t) 1 0 + counted (is_repeated ts) s ≡ 0 + counted (is_repeated ts) s = rw r in
-        ⊎_elim (λ (f : counted (picked (Numbered number)) s ≡ 0). inl (rw (n, f))) inr (rest (omega arith))
+        ⊎_elim (λ (f : counted (has_number number) s ≡ 0). inl (rw (n, f))) inr (rest (omega arith))
 
 pub distinct : (ts : List (List ℕ)) → repeated ts ≡ false → Distinct ts
 distinct ts e number =
     let none = ltb-false 0 (counted (is_repeated ts) ts) e in
-    ⊎_elim (λ (f : counted (picked (Numbered number)) ts ≡ 0). omega arith) (λ (f : counted (picked (Numbered number)) ts ≤ 1). f) (not_repeated ts ts (omega arith) number)
+    ⊎_elim (λ (f : counted (has_number number) ts ≡ 0). omega arith) (λ (f : counted (has_number number) ts ≤ 1). f) (not_repeated ts ts (omega arith) number)
 
 -- two tenants of one number are one
 pub one_tenant : {t u : List ℕ} (ts : List (List ℕ)) → Distinct ts → Memᴰ t ts → Memᴰ u ts → number_in t ≡ number_in u → t ≡ u
 one_tenant {t} {u} ts d m n e =
-    only_one (picked (Numbered (number_in u))) ts (d (number_in u)) m n (eq-eqb (number_in t) (number_in u) e) (eq-eqb (number_in u) (number_in u) refl)
+    only_one (has_number (number_in u)) ts (d (number_in u)) m n (eq-eqb (number_in t) (number_in u) e) (eq-eqb (number_in u) (number_in u) refl)
 
 -- ---- in rising order
 
@@ -79,13 +78,13 @@ pub data RisingFrom : ℕ → List (List ℕ) → Type 0 where
 pub rises : {low : ℕ} {t : List ℕ} {ts : List (List ℕ)} → RisingFrom low (t ∷ ts) → (low ≤ number_in t) × RisingFrom (suc (number_in t)) ts
 rises (one_more h r) = (h, r)
 
-insert_rises : (t : List ℕ) (us : List (List ℕ)) (low : ℕ) → RisingFrom low us → low ≤ number_in t → counted (picked (Numbered (number_in t))) us ≡ 0 → RisingFrom low (insert t us)
+insert_rises : (t : List ℕ) (us : List (List ℕ)) (low : ℕ) → RisingFrom low us → low ≤ number_in t → counted (has_number (number_in t)) us ≡ 0 → RisingFrom low (insert t us)
 unfolding insert counted
 insert_rises t [] low r h e = one_more h none_left
-insert_rises t (u ∷ us) low r h e = by_test (ltb (number_in t) (number_in u)) refl (rises r) (λ (l : suc (number_in u) ≤ number_in t) (f : counted (picked (Numbered (number_in t))) us ≡ 0). insert_rises t us (suc (number_in u)) (rises r).1 l f)
+insert_rises t (u ∷ us) low r h e = by_test (ltb (number_in t) (number_in u)) refl (rises r) (λ (l : suc (number_in u) ≤ number_in t) (f : counted (has_number (number_in t)) us ≡ 0). insert_rises t us (suc (number_in u)) (rises r).1 l f)
   where
     by_test : (b : Bool) → ltb (number_in t) (number_in u) ≡ b → (low ≤ number_in u) × RisingFrom (suc (number_in u)) us
-        → (suc (number_in u) ≤ number_in t → counted (picked (Numbered (number_in t))) us ≡ 0 → RisingFrom (suc (number_in u)) (insert t us))
+        → (suc (number_in u) ≤ number_in t → counted (has_number (number_in t)) us ≡ 0 → RisingFrom (suc (number_in u)) (insert t us))
         → RisingFrom low (cond b (t ∷ u ∷ us) (u ∷ insert t us))
     by_test true l r rest = one_more h (one_more (ltb-true (number_in t) (number_in u) l) r.1)
     by_test false l r rest =
@@ -93,7 +92,7 @@ insert_rises t (u ∷ us) low r h e = by_test (ltb (number_in t) (number_in u)) 
         ⊎_elim
         (λ (k : number_in u < number_in t). one_more r.0 (rest k (omega arith)))
         (λ (k : number_in t ≤ number_in u).
-        let z : cond (eqb (number_in u) (number_in t)) 1 0 + counted (picked (Numbered (number_in t))) us ≡ 1 + counted (picked (Numbered (number_in t))) us = rw (eq-eqb (number_in u) (number_in t) (omega arith)) in
+        let z : cond (eqb (number_in u) (number_in t)) 1 0 + counted (has_number (number_in t)) us ≡ 1 + counted (has_number (number_in t)) us = rw (eq-eqb (number_in u) (number_in t) (omega arith)) in
         absurd (omega arith))
         (side (number_in u) (number_in t))
 
@@ -101,9 +100,9 @@ pub rising_rises : (ts : List (List ℕ)) → Distinct ts → RisingFrom 0 (risi
 unfolding rising counted
 rising_rises [] d = none_left
 rising_rises (t ∷ ts) d =
-    let own : cond (eqb (number_in t) (number_in t)) 1 0 + counted (picked (Numbered (number_in t))) ts ≡ 1 + counted (picked (Numbered (number_in t))) ts = rw (eq-eqb (number_in t) (number_in t) refl) in
-    let h : counted (picked (Numbered (number_in t))) ts ≡ 0 = omega (arith, d (number_in t)) in
-    insert_rises t (rising ts) 0 (rising_rises ts (λ number. omega (arith, d number))) (omega arith) (sym (perm_count (picked (Numbered (number_in t))) (perm_rising ts)) ∙ h)
+    let own : cond (eqb (number_in t) (number_in t)) 1 0 + counted (has_number (number_in t)) ts ≡ 1 + counted (has_number (number_in t)) ts = rw (eq-eqb (number_in t) (number_in t) refl) in
+    let h : counted (has_number (number_in t)) ts ≡ 0 = omega (arith, d (number_in t)) in
+    insert_rises t (rising ts) 0 (rising_rises ts (λ number. omega (arith, d number))) (omega arith) (sym (perm_count (has_number (number_in t)) (perm_rising ts)) ∙ h)
 
 -- ---- how many of those that a test picks have a lower number
 
@@ -154,7 +153,7 @@ and-true false = refl
 module _ (l : List (List ℕ)) where
   rank_is : (low k : ℕ) (t : List ℕ) (s : List (List ℕ)) → Before all l low k (t ∷ s) → RisingFrom low (t ∷ s) → (rank : ℕ) → has_rank l rank t ≡ eqb k rank
   rank_is low k t s b r rank =
-      ap (λ (n : ℕ). eqb n rank) (sym (same_count (lower all (number_in t)) (picked (Below (number_in t))) (λ u. and-true (ltb (number_in u) (number_in t))) l) ∙ its_rank all l low k t s b r)
+      ap (λ (n : ℕ). eqb n rank) (sym (same_count (lower all (number_in t)) (is_below (number_in t)) (λ u. and-true (ltb (number_in u) (number_in t))) l) ∙ its_rank all l low k t s b r)
 
   first_at : (d : List ℕ) (rank low k : ℕ) (s : List (List ℕ)) → Before all l low k s → RisingFrom low s → k ≤ rank → rank < k + length s → first_of (has_rank l rank) s ≡ get_or s (rank - k) d
   unfolding first_of
@@ -195,7 +194,7 @@ module _ (ts : List (List ℕ)) (d : Distinct ts) where
   sorted = rising ts
 
   same_rank : (rank : ℕ) (t : List ℕ) → has_rank ts rank t ≡ has_rank sorted rank t
-  same_rank rank t = ap (λ (n : ℕ). eqb n rank) (perm_count (picked (Below (number_in t))) (perm_rising ts))
+  same_rank rank t = ap (λ (n : ℕ). eqb n rank) (perm_count (is_below (number_in t)) (perm_rising ts))
 
   -- one tenant at most has a rank
   pub few_ranked : (rank : ℕ) → counted (has_rank ts rank) ts ≤ 1

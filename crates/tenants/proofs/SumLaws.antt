@@ -12,10 +12,9 @@ use lib.Dec.{ltb, eqb}
 use borrow.Author.Tests.{lt-ltb, le-ltb, ne_eqb}
 use Rattle.laws.proofs.Side.{side}
 use Rattle.key.specs.LaneBits.{AgreeIn}
-use Rattle.tenants.specs.declared.Pick.TheVariants.{SharingBelow}
-use Rattle.tenants.specs.Tenants.{number_in, key_in, sharing, picked, counted}
+use Rattle.tenants.specs.Tenants.{number_in, key_in, sharing, counted, sharing_below}
 use Rattle.tenants.specs.Shares.{portion, share_of, group_of}
-use Rattle.tenants.proofs.LoopLaws.{at_most_one}
+use Rattle.tenants.proofs.ChainLaws.{at_most_one}
 use Rattle.tenants.proofs.CountLaws.{same_count, perm_count, perm_member, counted_member}
 use Rattle.tenants.proofs.RisingLaws.{Distinct, rising, perm_rising, RisingFrom, rises, rising_rises, lower, Before, none_before, its_rank, one_before}
 use Rattle.tenants.proofs.GroupLaws.{same_sharing, shares_copy, copy_shares, group_test, of_one_group}
@@ -122,7 +121,7 @@ module _ (bits size : ℕ) (ts : List (List ℕ)) (d : Distinct ts) where
       let same : (t : List ℕ) → sharing bits key t ≡ sharing bits (key_in u) t = same_sharing bits key (key_in u) e in
       sym (ap₂ (portion size)
       (same_count (sharing bits key) (sharing bits (key_in u)) same ts)
-      (same_count (lower (sharing bits key) (number_in u)) (picked (SharingBelow bits (key_in u) (number_in u))) (λ t. ap (λ (b : Bool). ltb (number_in t) (number_in u) && b) (same t)) ts))
+      (same_count (lower (sharing bits key) (number_in u)) (sharing_below bits (key_in u) (number_in u)) (λ t. ap (λ (b : Bool). ltb (number_in t) (number_in u) && b) (same t)) ts))
 
   module _ {t : List ℕ} (m : Memᴰ t ts) where
     abbrev test : List ℕ → Bool

@@ -1,7 +1,6 @@
 -- Request 13: "A copy's bytes (both streams) are divided evenly within its group; a remainder goes one byte each to the lowest tenant numbers."
 use Rattle.std.specs.Prelude.{ℕ, zero, suc, ◌+◌, ◌/◌, ◌%◌, cond, List, [], ◌∷◌, ltb, eqb}
-use Rattle.tenants.specs.declared.Pick.TheVariants.{Sharing, SharingBelow}
-use Rattle.tenants.specs.Tenants.{number_in, key_in, sharing, picked, counted, lowest, ranked}
+use Rattle.tenants.specs.Tenants.{number_in, key_in, sharing, counted, lowest, ranked, sharing_below}
 
 -- "divided evenly"; the remainder to the first ranks. Where there are no members there is nothing to bear
 unfoldable pub portion : ℕ → ℕ → ℕ → ℕ
@@ -10,7 +9,7 @@ portion size members rank = cond (eqb members 0) 0 (size / members + cond (ltb r
 -- by how many members its group has, and how many of them have a lower number
 abbrev pub share_of : ℕ → ℕ → List (List ℕ) → List ℕ → ℕ
 share_of bits size tenants tenant =
-    portion size (counted (picked (Sharing bits (key_in tenant))) tenants) (counted (picked (SharingBelow bits (key_in tenant) (number_in tenant))) tenants)
+    portion size (counted (sharing bits (key_in tenant)) tenants) (counted (sharing_below bits (key_in tenant) (number_in tenant)) tenants)
 
 -- the lowest tenant of its group
 abbrev pub group_of : ℕ → List (List ℕ) → List ℕ → ℕ

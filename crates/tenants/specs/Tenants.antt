@@ -3,8 +3,6 @@ use Rattle.std.specs.Prelude.{ℕ, ◌+◌, min, Bool, cond, not, ◌&&◌, ◌|
 use Rattle.std.specs.Int.Bits.{bit_and}
 use Rattle.laws.specs.Lists.{at}
 use Rattle.key.specs.CountingBits.{counting_bits}
-use Rattle.tenants.specs.declared.Pick.{Pick}
-use Rattle.tenants.specs.declared.Pick.TheVariants.{Numbered, Below, Sharing, SharingBelow, Differing}
 
 abbrev pub number_in : List ℕ → ℕ
 number_in tenant = at tenant 0
@@ -20,13 +18,17 @@ sharing bits key tenant = eqb (bit_and key bits) (bit_and (key_in tenant) bits)
 abbrev pub sharing_otherwise : ℕ → ℕ → List ℕ → Bool
 sharing_otherwise bits key tenant = not (eqb (counting_bits key) (counting_bits (key_in tenant))) && sharing bits key tenant
 
--- which tenants are counted
-abbrev pub picked : Pick → List ℕ → Bool
-picked (Numbered number) tenant = eqb (number_in tenant) number
-picked (Below number) tenant = ltb (number_in tenant) number
-picked (Sharing bits key) tenant = sharing bits key tenant
-picked (SharingBelow bits key number) tenant = ltb (number_in tenant) number && sharing bits key tenant
-picked (Differing bits key) tenant = sharing_otherwise bits key tenant
+-- whose number this is
+abbrev pub has_number : ℕ → List ℕ → Bool
+has_number number tenant = eqb (number_in tenant) number
+
+-- whose number is lower
+abbrev pub is_below : ℕ → List ℕ → Bool
+is_below number tenant = ltb (number_in tenant) number
+
+-- and who has one copy with a key
+abbrev pub sharing_below : ℕ → ℕ → ℕ → List ℕ → Bool
+sharing_below bits key number tenant = is_below number tenant && sharing bits key tenant
 
 -- how many a test picks
 unfoldable pub counted : (List ℕ → Bool) → List (List ℕ) → ℕ
@@ -40,7 +42,7 @@ lowest test number (tenant ∷ tenants) = min (cond (test tenant) (number_in ten
 
 -- "a number twice": some tenant's number is that of more than one
 abbrev pub is_repeated : List (List ℕ) → List ℕ → Bool
-is_repeated tenants tenant = ltb 1 (counted (picked (Numbered (number_in tenant))) tenants)
+is_repeated tenants tenant = ltb 1 (counted (has_number (number_in tenant)) tenants)
 
 abbrev pub repeated : List (List ℕ) → Bool
 repeated tenants = ltb 0 (counted (is_repeated tenants) tenants)
@@ -56,7 +58,7 @@ first_of test (tenant ∷ tenants) = cond (test tenant) tenant (first_of test te
 
 -- "by rising tenant": at a rank stands the tenant that has so many below it
 abbrev pub has_rank : List (List ℕ) → ℕ → List ℕ → Bool
-has_rank tenants rank tenant = eqb (counted (picked (Below (number_in tenant))) tenants) rank
+has_rank tenants rank tenant = eqb (counted (is_below (number_in tenant)) tenants) rank
 
 abbrev pub ranked : ℕ → List (List ℕ) → List ℕ
 ranked rank tenants = first_of (has_rank tenants rank) tenants

@@ -1,15 +1,9 @@
 -- The fewest digits that hold a number are those of `digitsFor`: both go on with n / base until it is below the base and there are enough. And how many
 -- there are. Assumes nothing.
-use mathlib.Core.Path.{◌≡◌, ap, ◌∙◌}
-use mathlib.Core.Bool.{Bool, true, false, cond, ◌&&◌, and-false}
-use mathlib.Core.Logic.{⊎_elim}
-use mathlib.Core.List.{List, [], ◌∷◌, ◌++◌}
-use Prim.Native.Nat.{ℕ, zero, suc, ◌+◌, ◌-◌, ◌*◌, ◌/◌, ◌%◌, ◌^◌, ◌≤◌, ◌<◌, min, max}
-use native.Mathlib.Nat.{pow-zero, pow-suc, pow-le-pow_right, mod-eq_of_lt, le-div_iff_mul-le, div-lt_iff_lt-mul}
-use native.Mathlib.Omega.{arith}
-use lib.ListN.{length, length-append}
-use lib.Dec.{ltb, leb}
-use borrow.Author.Tests.{lt-ltb, le-ltb, le-leb, lt-leb}
+use Rattle.std.proofs.Common.{◌≡◌, ap, ◌∙◌, Bool, true, false, cond, ◌&&◌, ⊎_elim, List, [], ◌∷◌, ◌++◌, ℕ, zero, suc, ◌-◌, ◌*◌, ◌/◌, ◌%◌, ◌^◌, ◌≤◌, ◌<◌, min, max, pow-suc, mod-eq_of_lt, le-div_iff_mul-le, div-lt_iff_lt-mul, arith, length, length-append, ltb, leb, lt-ltb, le-ltb, le-leb}
+use mathlib.Core.Bool.{and-false}
+use native.Mathlib.Nat.{pow-zero, pow-le-pow_right}
+use borrow.Author.Tests.{lt-leb}
 use Rattle.laws.proofs.Side.{side}
 use Rattle.io.specs.Digits.{hex_digit_ascii, last_digits, IsDigitCount}
 use Rattle.text.specs.Numbers.{digits_for, decimal, hex}

@@ -1,8 +1,5 @@
 -- No second answer meets a contract of this crate: what a caller learns makes two counts, and two outputs at exit, equal. Assumes nothing.
-use Prim.Native.Nat.{ℕ, ◌+◌}
-use mathlib.Core.Path.{◌≡◌}
-use mathlib.Core.List.{List}
-use native.Mathlib.Omega.{arith}
+use Rattle.std.proofs.Common.{ℕ, ◌+◌, ◌≡◌, List, arith}
 use Rattle.laws.proofs.OneAnswer.{no_second_answer}
 use Rattle.laws.specs.Outputs.{Put}
 use Rattle.text.proofs.put_bytes.Reads as put-bytes

@@ -13,10 +13,8 @@ ghost use Rattle.laws.specs.Outputs.{Put};
 fn put_byte(out: &mut [u8], place: usize, i: usize, byte: u8)
     ensures { out.new ≡ set out.old (place + i) byte }
 {
-    if place < out.len() {
-        if i < out.len() - place {
-            out[place + i] = byte;
-        }
+    if i < out.len().saturating_sub(place) {
+        out[place + i] = byte;
     }
 }
 
@@ -24,12 +22,10 @@ fn put_byte(out: &mut [u8], place: usize, i: usize, byte: u8)
 pub fn put_bytes(out: &mut [u8], place: usize, bytes: &[u8]) -> usize
     ensures { Put bytes.now out.old place out.new (place + result) }
 {
-    let mut i = 0;
-    while i < bytes.len() {
-        put_byte(out, place, i, bytes[i]);
-        i += 1;
+    for (i, byte) in bytes.iter().enumerate() {
+        put_byte(out, place, i, *byte);
     }
-    i
+    bytes.len()
 }
 
 // The hex digit of a number below 16.
@@ -37,24 +33,21 @@ fn hex_digit(n: u8) -> u8
     requires { n < 16 }
     ensures { result ≡ hex_digit_ascii n }
 {
-    if n < 10 {
-        return b'0' + n;
+    match n {
+        0..=9 => b'0' + n,
+        _ => b'a' + (n - 10),
     }
-    b'a' + (n - 10)
 }
 
 // Puts two hex digits for each of some bytes.
 pub fn put_hex_bytes(out: &mut [u8], place: usize, bytes: &[u8]) -> usize
     ensures { Put (hex_bytes bytes.now) out.old place out.new (place + result) }
 {
-    let mut i = 0;
-    while i < bytes.len() {
-        let byte = bytes[i];
-        put_byte(out, place, 2 * i, hex_digit(byte / 16));
-        put_byte(out, place, 2 * i + 1, hex_digit(byte % 16));
-        i += 1;
+    for (i, byte) in bytes.iter().enumerate() {
+        put_byte(out, place, 2 * i, hex_digit(*byte / 16));
+        put_byte(out, place, 2 * i + 1, hex_digit(*byte % 16));
     }
-    2 * i
+    2 * bytes.len()
 }
 
 // Puts a number in decimal digits.

@@ -1,5 +1,5 @@
 -- What bytes begin with: one piece after the other, and as a list. Assumes nothing.
-use Prim.Native.Nat.{ℕ, ◌+◌, ◌≤◌, ◌<◌}
+use Prim.Native.Nat.{ℕ, suc, ◌+◌, ◌≤◌, ◌<◌}
 use mathlib.Core.Path.{◌≡◌, refl, sym, ap, ap₂, ◌∙◌}
 use mathlib.Core.List.{List, [], ◌∷◌, ◌++◌}
 use mathlib.Core.Bool.{Bool, true, false, ◌&&◌, and_assoc, and-true, and-false}
@@ -12,11 +12,18 @@ use borrow.Author.Tests.{le-leb, lt-leb, eq-eqb, ne_eqb, eqb-true}
 use Rattle.laws.proofs.Side.{side}
 use Rattle.part.specs.Parts.{part_at}
 use Rattle.signature.specs.Signatures.{same_bytes, stands_at}
-use Rattle.signature.proofs.SameLaws.{other_lengths}
 
 -- bytes begin with a marker
 abbrev pub front : List ℕ → List ℕ → Bool
 front marker bytes = same_bytes (take (length marker) bytes) marker
+
+-- lists of other lengths are not the same
+pub other_lengths : (a b : List ℕ) → (length a ≡ length b → ⊥) → same_bytes a b ≡ false
+unfolding same_bytes
+other_lengths [] [] h = absurd (h refl)
+other_lengths [] (y ∷ ys) h = refl
+other_lengths (x ∷ xs) [] h = refl
+other_lengths (x ∷ xs) (y ∷ ys) h = ap (λ (t : Bool). eqb x y && t) (other_lengths xs ys (λ e. h (ap suc e))) ∙ and-false (eqb x y)
 
 -- ---- a marker that stands at a place is what the bytes from there on begin with
 

@@ -2,8 +2,6 @@
 use mathlib.Core.Path.{◌≡◌}
 use Rattle.laws.proofs.OneAnswer.{no_second_answer}
 use Rattle.turns.proofs.shape_of.Reads as shape_of
-use Rattle.turns.proofs.less.Reads as less
-use Rattle.turns.proofs.either.Reads as either
 use Rattle.turns.proofs.head_by.Reads as head-by
 use Rattle.turns.proofs.chunk_size.Reads as chunk-size
 use Rattle.turns.proofs.payload_in.Reads as payload-in
@@ -31,14 +29,8 @@ turn_in_once κs args r r' exit exit' l l' = no_second_answer l.0 l'.0
 pub read_turns_once : (κs : _) (args : _) (r r' : _) (exit exit' : _) → read-turns.Learnt κs args r exit → read-turns.Learnt κs args r' exit' → r ≡ r'
 read_turns_once κs args r r' exit exit' l l' = no_second_answer l.0 l'.0
 
-pub less_once : (κs : _) (args : _) (r r' : _) (exit exit' : _) → less.Learnt κs args r exit → less.Learnt κs args r' exit' → r ≡ r'
-less_once κs args r r' exit exit' = no_second_answer
-
 pub stream_size_once : (κs : _) (args : _) (r r' : _) (exit exit' : _) → stream-size.Learnt κs args r exit → stream-size.Learnt κs args r' exit' → r ≡ r'
 stream_size_once κs args r r' exit exit' = no_second_answer
 
 pub payload_of_once : (κs : _) (args : _) (r r' : _) (exit exit' : _) → payload-of.Learnt κs args r exit → payload-of.Learnt κs args r' exit' → SamePart r r'
 payload_of_once κs args r r' exit exit' = one_part args.0 _ _ r r'
-
-pub either_once : (κs : _) (args : _) (r r' : _) (exit exit' : _) → either.Learnt κs args r exit → either.Learnt κs args r' exit' → r ≡ r'
-either_once κs args r r' exit exit' = no_second_answer

@@ -3,7 +3,7 @@
 // From the Rust: `write_stream_data`, `write_video_chunk` and `write_audio_chunk` of `builder.rs`, for at most one audio.
 #![tactic(auto)]
 
-ghost use Rattle.std.specs.Prelude.{◌≡◌, ◌+◌, ◌-◌, ◌≤◌, ◌<◌, ◌^◌, length, [], true, ◌||◌};
+ghost use Rattle.std.specs.Prelude.{◌≡◌, ◌+◌, ◌-◌, ◌≤◌, ◌<◌, ◌^◌, length, [], true};
 ghost use Rattle.part.specs.Parts.{part_at, PartAt};
 ghost use Rattle.signature.specs.Signatures.{stands_at};
 ghost use Rattle.word.specs.Bytes.{zeros};
@@ -11,6 +11,7 @@ ghost use Rattle.turns.specs.Chunks.{letters_in, number_of, shape_of, head_by, l
 ghost use Rattle.turns.specs.Turns.{stream_size, seen_in, heard_in, read_in, turn_by, turns_by};
 
 use write_blocks::{CHUNK, PAYLOAD};
+
 // The container that chunks lie in: the old builder's, or request 1's.
 #[derive(Clone, Copy)]
 pub enum Form {
@@ -37,7 +38,8 @@ pub struct Shape {
     pub pads: usize,
 }
 
-// A payload that was read: its length, and whether it begins with the end marker.
+// A payload that was read: its length, 0 where there is none, and whether it begins with the end marker. Both stay numbers and no Option:
+// `seen_as` in specs/ says them of every payload, of one of no bytes too.
 #[derive(Clone, Copy)]
 pub struct Seen {
     pub len: usize,
@@ -114,41 +116,13 @@ pub fn shape_of(form: Form, track: Track, from: usize, len: u32) -> Shape
 pub fn head_by(shape: Shape) -> [u8; 28]
     ensures { result ≡ head_by shape }
 {
-    let letters = shape.letters;
-    let size = shape.size;
-    let sizes = shape.sizes;
-    let from = shape.from;
-    let number = shape.number;
-    [
-        (letters / 0x1000000 % 256) as u8,
-        (letters / 0x10000 % 256) as u8,
-        (letters / 0x100 % 256) as u8,
-        (letters % 256) as u8,
-        (size / 0x1000000 % 256) as u8,
-        (size / 0x10000 % 256) as u8,
-        (size / 0x100 % 256) as u8,
-        (size % 256) as u8,
-        (sizes / 0x1000000 % 256) as u8,
-        (sizes / 0x10000 % 256) as u8,
-        (sizes / 0x100 % 256) as u8,
-        (sizes % 256) as u8,
-        (from / 0x1000000 % 256) as u8,
-        (from / 0x10000 % 256) as u8,
-        (from / 0x100 % 256) as u8,
-        (from % 256) as u8,
-        (number / 0x1000000 % 256) as u8,
-        (number / 0x10000 % 256) as u8,
-        (number / 0x100 % 256) as u8,
-        (number % 256) as u8,
-        0,
-        0,
-        0,
-        0,
-        0,
-        0,
-        0,
-        0,
-    ]
+    let mut head = [0; 28];
+    head[..4].copy_from_slice(&write_blocks::low32(shape.letters));
+    head[4..8].copy_from_slice(&write_blocks::low32(shape.size));
+    head[8..12].copy_from_slice(&write_blocks::low32(shape.sizes));
+    head[12..16].copy_from_slice(&write_blocks::low32(shape.from));
+    head[16..20].copy_from_slice(&write_blocks::low32(shape.number));
+    head
 }
 
 // The size of a chunk of `len` bytes; there is none of 0.
@@ -179,25 +153,15 @@ pub fn payload_of(bytes: &[u8], form: Form, len: usize) -> &[u8]
     }
 }
 
-// One number less another, and 0 where that is larger.
-pub fn less(some: usize, other: usize) -> usize
-    ensures { result ≡ some - other }
-{
-    if some < other {
-        return 0;
-    }
-    some - other
-}
-
 // How long the payload of the chunk is that bytes begin with, by its own sizes.
 fn len_in(form: Form, bytes: &[u8]) -> usize
     ensures { (result ≡ len_in form bytes.now) × (result < 2 ^ 32) }
 {
     let size = word::read32(bytes, 4);
-    let len = less(size, 0x18);
+    let len = size.saturating_sub(0x18);
     match form {
         Form::Old => len,
-        Form::New => less(len, word::read16(bytes, 10)),
+        Form::New => len.saturating_sub(word::read16(bytes, 10)),
     }
 }
 
@@ -226,13 +190,9 @@ fn stands_whole(bytes: &[u8], shape: Shape, len: usize) -> bool
     ensures { result ≡ stands_at (laid_by shape (part_at bytes.now (28 + shape.gap) len)) bytes.now 0 }
 {
     let head = head_by(shape);
-    if signature::stands_at(&head, bytes, 0) {
-        if zeros_at(bytes, 28, shape.gap) {
-            return zeros_at(bytes, 28 + shape.gap + len, shape.pads);
-        }
-        return false;
-    }
-    false
+    signature::stands_at(&head, bytes, 0)
+        && zeros_at(bytes, 28, shape.gap)
+        && zeros_at(bytes, 28 + shape.gap + len, shape.pads)
 }
 
 // The payload of the chunk that bytes begin with: its length, 0 where there is none.
@@ -279,16 +239,6 @@ pub fn payload_in(bytes: &[u8], form: Form, track: Track, from: usize, going: bo
     nothing()
 }
 
-// One or the other.
-pub fn either(some: bool, other: bool) -> bool
-    ensures { result ≡ (some || other) }
-{
-    if some {
-        return true;
-    }
-    other
-}
-
 // The next turn: the payload of each stream that goes on, and the size of their chunks.
 pub fn turn_in(bytes: &[u8], form: Form, from: usize, seen: bool, heard: bool) -> Turns
     ensures { (result ≡ turn_by form (seen_in form from seen bytes.now) (heard_in form from seen heard bytes.now)) × (result.video ≤ 0x10000) × (result.audio ≤ 0x10000) × (result.end ≤ length bytes.now) }
@@ -301,11 +251,12 @@ pub fn turn_in(bytes: &[u8], form: Form, from: usize, seen: bool, heard: bool) -
         video: video.len,
         audio: audio.len,
         end: middle + last,
-        marked: either(video.marked, audio.marked),
+        marked: video.marked | audio.marked,
     }
 }
 
-// All turns that bytes begin with, with audio or without: the lengths of both streams, and the size of their chunks.
+// All turns that bytes begin with, with audio or without: the lengths of both streams, and the size of their chunks. No `for`: the
+// size of each turn says where the next begins, and its payloads whether there is one.
 pub fn read_turns(bytes: &[u8], form: Form, audio: bool) -> Turns
     ensures { (result ≡ turns_by (read_in form audio bytes.now)) × (result.end ≤ length bytes.now) }
 {
@@ -316,9 +267,9 @@ pub fn read_turns(bytes: &[u8], form: Form, audio: bool) -> Turns
     let mut video = 0;
     let mut sound = 0;
     let mut marked = false;
-    while either(seen, heard) {
+    while seen || heard {
         let turn = turn_in(&bytes[place..], form, from, seen, heard);
-        marked = either(marked, turn.marked);
+        marked |= turn.marked;
         video += turn.video;
         sound += turn.audio;
         seen = turn.video == PAYLOAD;

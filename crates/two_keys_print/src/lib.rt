@@ -4,31 +4,14 @@
 // prints. No contract can say what is written, so the functions that print have none.
 #![tactic(auto)]
 
-ghost use Rattle.std.specs.Prelude.{◌≤◌, length};
-
 use descriptors::STDOUT_FILENO;
-use typed::{Typed, Verdict};
+use typed::Verdict;
 
 // The hex digits, as they are printed.
 const HEX: [u8; 16] = *b"0123456789ABCDEF";
 
 // So many bytes of a word that is no key are shown.
 const SHOWN: usize = 40;
-
-// A row of 16 marks, one for each place of a key.
-#[derive(Clone, Copy)]
-enum Row {
-    Digits(u64),
-    Counts,
-    Differs(u64, u64),
-}
-
-// Two keys, or nothing where a line told why not.
-#[derive(Clone, Copy)]
-enum Pair {
-    Keys(u64, u64),
-    Told,
-}
 
 // Prints a text.
 fn print(text: &[u8]) {
@@ -57,37 +40,26 @@ fn difference_mark(first: u64, second: u64, place: usize) -> u8 {
     b'.'
 }
 
-// What stands in a row at a place.
-fn mark(row: Row, place: usize) -> u8 {
-    match row {
-        Row::Digits(key) => digit_mark(key, place),
-        Row::Counts => count_mark(place),
-        Row::Differs(first, second) => difference_mark(first, second, place),
+// Prints a row of 16 marks, one for each place of a key.
+fn print_row<F: Fn(usize) -> u8>(mark: F)
+    requires { F.IsAlwaysCallable mark }
+{
+    for place in 0..typed::PLACES {
+        print(&[mark(place)]);
     }
-}
-
-// Prints a row's 16 marks.
-fn print_row(row: Row) {
-    let mut marks = [b' '; typed::PLACES];
-    let mut place = 0;
-    while place < typed::PLACES {
-        marks[place] = mark(row, place);
-        place += 1;
-    }
-    print(&marks);
 }
 
 // Prints both keys, which of their digits count, and where they differ.
 fn print_digits(first: u64, second: u64) {
     print(b"first key   ");
-    print_row(Row::Digits(first));
+    print_row(|place| digit_mark(first, place));
     print(b"\nsecond key  ");
-    print_row(Row::Digits(second));
+    print_row(|place| digit_mark(second, place));
     print(b"\ncounts      ");
-    print_row(Row::Counts);
+    print_row(count_mark);
     print(b"  + can touch a picture and ADX sound, - never does\n");
     print(b"differs     ");
-    print_row(Row::Differs(first, second));
+    print_row(|place| difference_mark(first, second, place));
     print(b"  ^ the two keys have different digits here\n\n");
 }
 
@@ -130,35 +102,17 @@ fn print_verdict(verdict: Verdict) {
 
 // A byte as it is shown: `?` for one that could break the line.
 fn shown(byte: u8) -> u8 {
-    if byte < 0x20 {
-        return b'?';
+    match byte {
+        0x20..=0x7E => byte,
+        _ => b'?',
     }
-    if 0x7E < byte {
-        return b'?';
-    }
-    byte
-}
-
-// How many bytes of a word are shown.
-fn shown_count(word: &[u8]) -> usize
-    ensures { (result ≤ length word.now) × (result ≤ 40) }
-{
-    if SHOWN < word.len() {
-        return SHOWN;
-    }
-    word.len()
 }
 
 // Prints the start of a word, whatever its bytes are.
 fn print_start(word: &[u8]) {
-    let mut text = [b' '; SHOWN];
-    let count = shown_count(word);
-    let mut at = 0;
-    while at < count {
-        text[at] = shown(word[at]);
-        at += 1;
+    for byte in word.iter().take(SHOWN) {
+        print(&[shown(*byte)]);
     }
-    print(&text[..count]);
 }
 
 // Prints a word on one line: its start, and `...` for the rest.
@@ -198,17 +152,17 @@ fn print_about(first: u64, second: u64) {
     print_verdict(typed::verdict_on(first, second));
 }
 
-// Two words as typed: both keys, or a line about the first that is no key.
-fn read_pair(first: &[u8], second: &[u8]) -> Pair {
-    let Typed::Number(one) = typed::read_key(first) else {
+// Two words as typed: both keys, or none where a line is printed about the first that is no key.
+fn read_pair(first: &[u8], second: &[u8]) -> Option<(u64, u64)> {
+    let Some(one) = typed::read_key(first) else {
         print_no_key(b"1", first);
-        return Pair::Told;
+        return None;
     };
-    let Typed::Number(two) = typed::read_key(second) else {
+    let Some(two) = typed::read_key(second) else {
         print_no_key(b"2", second);
-        return Pair::Told;
+        return None;
     };
-    Pair::Keys(one, two)
+    Some((one, two))
 }
 
 // Prints whether a sound clip, whose length is shown as typed, tells two keys apart.
@@ -228,7 +182,7 @@ fn print_clip(length: &[u8], tells: bool) {
 
 // Prints the answer for two words as typed, or one line about the first that is no key.
 pub fn print_answer(first: &[u8], second: &[u8]) {
-    let Pair::Keys(one, two) = read_pair(first, second) else {
+    let Some((one, two)) = read_pair(first, second) else {
         return;
     };
     print_about(one, two);
@@ -237,10 +191,10 @@ pub fn print_answer(first: &[u8], second: &[u8]) {
 // Prints the same, and whether a sound clip of a length as typed tells the keys apart; or one line about
 // the first word that is no key or no length.
 pub fn print_answer_on_clip(first: &[u8], second: &[u8], length: &[u8]) {
-    let Pair::Keys(one, two) = read_pair(first, second) else {
+    let Some((one, two)) = read_pair(first, second) else {
         return;
     };
-    let Typed::Number(bytes) = typed::read_length(length) else {
+    let Some(bytes) = typed::read_length(length) else {
         print_no_length(length);
         return;
     };

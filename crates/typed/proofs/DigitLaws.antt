@@ -1,13 +1,10 @@
 -- The laws of a key's digits: numbers with the same digits have the same low bits, and the other way round. Assumes nothing.
-use mathlib.Core.Path.{◌≡◌, refl, sym, ap, ◌∙◌}
-use mathlib.Core.Bool.{Bool, true, false, cond, false≢true}
-use Prim.Native.Nat.{ℕ, zero, suc, ◌+◌, ◌-◌, ◌*◌, ◌/◌, ◌%◌, ◌^◌, ◌≤◌, ◌<◌}
-use native.Mathlib.Omega.{arith}
-use native.Mathlib.Nat.{mod-one, mod-lt, div-div-eq-div-mul}
-use borrow.Author.Tests.{lt-ltb, le-ltb, ne_eqb, ltb-true, ltb-false, eqb-false}
+use Rattle.std.proofs.Common.{◌≡◌, refl, sym, ap, ◌∙◌, Bool, true, false, cond, ℕ, zero, suc, ◌+◌, ◌-◌, ◌*◌, ◌/◌, ◌%◌, ◌^◌, ◌≤◌, ◌<◌, arith, mod-lt, lt-ltb, le-ltb, ne_eqb, ltb-true, ltb-false, ltb, eqb, pow_pos, pow-add}
+use mathlib.Core.Bool.{false≢true}
+use native.Mathlib.Nat.{mod-one, div-div-eq-div-mul}
+use borrow.Author.Tests.{eqb-false}
 use lib.Arith.{digits_div}
-use lib.Dec.{ltb, eqb}
-use lib.Pow.{pow_pos, pow-add, mod-pow-add, mod-mod-pow}
+use lib.Pow.{mod-pow-add, mod-mod-pow}
 use Rattle.typed.specs.KeyDigits.{digit_at, digit_counts}
 
 -- the four bits from bit 4 * j up: the digit j places from the right
@@ -51,15 +48,7 @@ upper_digit key j =
     let e : 4 * (10 + j) ≡ 40 + 4 * j = omega arith in
     ap (λ (x : ℕ). x % 16) (ap (λ (x : ℕ). key / 2 ^ x) e ∙ ap (λ (x : ℕ). key / x) (pow-add 2 40 (4 * j)) ∙ sym (div-div-eq-div-mul key (2 ^ 40) (2 ^ (4 * j))))
 
--- the places that never count, and the others
-pub first_places : (place : ℕ) → place < 2 → digit_counts place ≡ false
-unfolding digit_counts
-first_places place h = simp (lt-ltb place 2 h)
-
-pub place_six : (place : ℕ) → place ≡ 6 → digit_counts place ≡ false
-unfolding digit_counts
-place_six place e = rw e refl
-
+-- the places that may count
 pub other_places : (place : ℕ) → 2 ≤ place → (place ≡ 6 → ⊥) → digit_counts place ≡ ltb place 16
 unfolding digit_counts
 other_places place h l = simp (le-ltb place 2 h, ne_eqb place 6 l)

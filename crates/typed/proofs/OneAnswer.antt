@@ -1,5 +1,5 @@
 -- No second answer meets a contract of this crate: what a caller learns makes two results one. Assumes nothing.
-use mathlib.Core.Path.{◌≡◌}
+use Rattle.std.proofs.Common.{◌≡◌}
 use Rattle.laws.proofs.OneAnswer.{no_second_answer}
 use Rattle.typed.proofs.read_key.Reads as read-key
 use Rattle.typed.proofs.read_length.Reads as read_length

@@ -1,12 +1,9 @@
 -- The promises of specs/Promises.antt, each under its name. The counting bits are the low 36 bits of a key, which are its nine
 -- digits from the right, and 16 bits from bit 40 up, which are four digits more. Assumes nothing.
-use mathlib.Core.Path.{◌≡◌, refl, sym, ap, ◌∙◌, subst}
-use mathlib.Core.Bool.{Bool, true, false, cond, false≢true}
-use Prim.Native.Nat.{ℕ, ◌+◌, ◌-◌, ◌/◌, ◌^◌, ◌≤◌, ◌<◌}
-use native.Mathlib.Omega.{arith}
+use Rattle.std.proofs.Common.{◌≡◌, refl, sym, ap, ◌∙◌, subst, Bool, true, false, cond, ℕ, ◌+◌, ◌-◌, ◌/◌, ◌^◌, ◌≤◌, ◌<◌, arith, eq-eqb, ne_eqb, eqb-true, eqb}
+use mathlib.Core.Bool.{false≢true}
 use native.Mathlib.Decide.{dec_le}
-use borrow.Author.Tests.{eq-eqb, ne_eqb, eqb-true, eqb-false, not-false}
-use lib.Dec.{eqb}
+use borrow.Author.Tests.{eqb-false, not-false}
 use Rattle.key.specs.CountingBits.{AgreeWhereItCounts, counting_bits}
 use Rattle.key.proofs.KeyBits.{one_number}
 use Rattle.typed.specs.declared.Verdict.{Verdict}

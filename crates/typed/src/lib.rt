@@ -4,16 +4,9 @@
 #![tactic(auto)]
 
 ghost use Rattle.std.specs.Prelude.{◌≡◌, ◌≤◌, ◌<◌};
-ghost use Rattle.typed.specs.TypedNumbers.{hex_value, prefixed, value_from, digits_read, number_typed, key_typed, length_typed, tenant_typed};
+ghost use Rattle.typed.specs.TypedNumbers.{value_from, digits_read, number_typed, key_typed, length_typed, tenant_typed};
 ghost use Rattle.typed.specs.KeyDigits.{digit_at, digit_counts, digits_differ};
 ghost use Rattle.typed.specs.Verdicts.{verdict_on};
-
-// What a word is that was typed as a number.
-#[derive(Clone, Copy)]
-pub enum Typed {
-    Number(u64),
-    NoNumber,
-}
 
 // What two keys have in common: every bit, every bit that counts, or not even those.
 #[derive(Clone, Copy)]
@@ -29,112 +22,72 @@ pub const PLACES: usize = 16;
 // The largest number of 64 bits has this many decimal digits.
 const DECIMALS: usize = 20;
 
-// It is this one.
-const LARGEST: u64 = 0xFFFFFFFFFFFFFFFF;
+// The base of a number after `0x` or `0X`, and of one with neither in front.
+const HEX: u32 = 16;
 
-// The value of a hex digit is below this; a byte that is no hex digit has this value.
-const HEX: u64 = 16;
+const DECIMAL: u32 = 10;
 
-// The value of a decimal digit is below this.
-const DECIMAL: u64 = 10;
-
-// A byte as a number.
-fn wide(byte: u8) -> u64
-    ensures { result ≡ byte }
-{
-    byte as u64
-}
-
-// The value of a hex digit of either case; of any other byte, 16.
-fn hex_value(byte: u8) -> u64
-    ensures { result ≡ hex_value byte }
-{
-    match byte {
-        b'0'..=b'9' => wide(byte - b'0'),
-        b'A'..=b'F' => wide(byte - b'A') + 10,
-        b'a'..=b'f' => wide(byte - b'a') + 10,
-        _ => HEX,
-    }
-}
-
-// Whether a word begins with `0x` or `0X`.
-fn is_prefixed(word: &[u8]) -> bool
-    ensures { result ≡ prefixed word.now }
-{
-    if word.len() < 2 {
-        return false;
-    }
-    if word[0] != b'0' {
-        return false;
-    }
-    if word[1] == b'x' {
-        return true;
-    }
-    word[1] == b'X'
-}
-
-// The number that bytes write, if all of them are digits of a base and it has 64 bits at most.
-fn value_of(digits: &[u8], base: u64) -> Typed
-    requires { (0 < base) × (base ≤ 16) }
+// The number that digits of a base write; none where a byte is no digit, or where it has more than 64 bits.
+fn value_of(digits: &[u8], base: u32) -> Option<u64>
+    requires { (2 ≤ base) × (base ≤ 16) }
     ensures { result ≡ value_from base 0 digits.now }
 {
-    let mut value = 0;
-    let mut at = 0;
-    while at < digits.len() {
-        let digit = hex_value(digits[at]);
-        if base <= digit {
-            return Typed::NoNumber;
-        }
-        if (LARGEST - digit) / base < value {
-            return Typed::NoNumber;
-        }
-        value = value * base + digit;
-        at += 1;
+    let mut value: u64 = 0;
+    for byte in digits {
+        let Some(digit) = char::from(*byte).to_digit(base) else {
+            return None;
+        };
+        let Some(raised) = value.checked_mul(u64::from(base)) else {
+            return None;
+        };
+        let Some(next) = raised.checked_add(u64::from(digit)) else {
+            return None;
+        };
+        value = next;
     }
-    Typed::Number(value)
+    Some(value)
 }
 
 // A number from its digits, so many at most. A word with too many is refused unread.
-fn read_digits(digits: &[u8], base: u64, most: usize) -> Typed
-    requires { (0 < base) × (base ≤ 16) }
+#[tactic(auto, unfolding(crate::specs::TypedNumbers::digits_read, crate::specs::TypedNumbers::between))]
+fn read_digits(digits: &[u8], base: u32, most: usize) -> Option<u64>
+    requires { (2 ≤ base) × (base ≤ 16) }
     ensures { result ≡ digits_read base most digits.now }
 {
-    if digits.len() == 0 {
-        return Typed::NoNumber;
-    }
-    if most < digits.len() {
-        return Typed::NoNumber;
+    if digits.is_empty() || most < digits.len() {
+        return None;
     }
     value_of(digits, base)
 }
 
 // A number as typed: hex after `0x` or `0X`, and where neither stands in front in so many digits of a base at most.
-fn read_number(word: &[u8], base: u64, most: usize) -> Typed
-    requires { (0 < base) × (base ≤ 16) }
+#[tactic(auto, unfolding(crate::specs::TypedNumbers::number_typed, crate::specs::TypedNumbers::prefixed))]
+fn read_number(word: &[u8], base: u32, most: usize) -> Option<u64>
+    requires { (2 ≤ base) × (base ≤ 16) }
     ensures { result ≡ number_typed base most word.now }
 {
-    if is_prefixed(word) {
-        return read_digits(&word[2..], HEX, PLACES);
+    match word {
+        [b'0', b'x' | b'X', digits @ ..] => read_digits(digits, HEX, PLACES),
+        _ => read_digits(word, base, most),
     }
-    read_digits(word, base, most)
 }
 
 // A key as typed: 1 to 16 hex digits of either case, with or without `0x` or `0X` in front.
-pub fn read_key(word: &[u8]) -> Typed
+pub fn read_key(word: &[u8]) -> Option<u64>
     ensures { result ≡ key_typed word.now }
 {
     read_number(word, HEX, PLACES)
 }
 
 // A clip's length as typed: 1 to 16 decimal digits, or hex digits after `0x` or `0X`.
-pub fn read_length(word: &[u8]) -> Typed
+pub fn read_length(word: &[u8]) -> Option<u64>
     ensures { result ≡ length_typed word.now }
 {
     read_number(word, DECIMAL, PLACES)
 }
 
 // A tenant's number as typed: 1 to 20 decimal digits that make a number of 64 bits, or hex digits after `0x` or `0X`.
-pub fn read_tenant(word: &[u8]) -> Typed
+pub fn read_tenant(word: &[u8]) -> Option<u64>
     ensures { result ≡ tenant_typed word.now }
 {
     read_number(word, DECIMAL, DECIMALS)
@@ -142,6 +95,7 @@ pub fn read_tenant(word: &[u8]) -> Typed
 
 // The hex digit of a key at a place, from 0, the leftmost, to 15, the rightmost; past these it is 0. The
 // bound follows from the equation, and spares a caller the proof of it.
+#[tactic(auto, unfolding(crate::specs::KeyDigits::digit_at))]
 pub fn digit_of(key: u64, place: usize) -> u8
     ensures value { result ≡ digit_at key place }
     ensures upper_bound { result < 16 }
@@ -149,24 +103,20 @@ pub fn digit_of(key: u64, place: usize) -> u8
     if PLACES <= place {
         return 0;
     }
-    ((key >> (4 * (15 - place))) % HEX) as u8
+    ((key >> (4 * (15 - place))) % 16) as u8
 }
 
 // Whether the digit at a place can touch a picture or ADX sound at all. Bits 56 to 63 are the digits at
 // places 0 and 1, and bits 36 to 39 the digit at place 6: these never count.
+#[tactic(auto, unfolding(crate::specs::KeyDigits::digit_counts))]
 pub fn digit_counts(place: usize) -> bool
     ensures { result ≡ digit_counts place }
 {
-    if place < 2 {
-        return false;
-    }
-    if place == 6 {
-        return false;
-    }
-    place < PLACES
+    matches!(place, 2..=5 | 7..=15)
 }
 
 // Whether two keys have different digits at a place.
+#[tactic(auto, unfolding(crate::specs::KeyDigits::digits_differ))]
 pub fn digits_differ(first: u64, second: u64, place: usize) -> bool
     ensures { result ≡ digits_differ first second place }
 {
@@ -174,6 +124,7 @@ pub fn digits_differ(first: u64, second: u64, place: usize) -> bool
 }
 
 // The verdict on two keys.
+#[tactic(auto, unfolding(crate::specs::Verdicts::verdict_on))]
 pub fn verdict_on(first: u64, second: u64) -> Verdict
     ensures { result ≡ verdict_on first second }
 {

@@ -1,29 +1,25 @@
 -- Rules C: a payload "is unmasked only with a key and data type 0, audio only if `audio_codec` is 2."
-use Rattle.std.specs.Prelude.{ℕ, List, Bool, true, false, cond, ◌&&◌, eqb}
+use Rattle.std.specs.Prelude.{ℕ, List, Bool, true, false, cond, ◌&&◌, eqb, Option, Some, None}
 use Rattle.key.specs.KeyTable.{keys_of}
 use Rattle.mask.specs.Video.{unmasked_video}
 use Rattle.mask.specs.Audio.{masked_audio}
-use Rattle.codec.specs.declared.Codec.{Codec}
-use Rattle.codec.specs.declared.Codec.TheVariants.{Value, Absent}
-use Rattle.unmasking.specs.declared.Key.{Key}
-use Rattle.unmasking.specs.declared.Key.TheVariants as key
 use Rattle.unmasking.specs.declared.Unmasking.{Unmasking}
 use Rattle.unmasking.specs.declared.Mask.{Mask}
 use Rattle.unmasking.specs.declared.Mask.TheVariants.{Clear, VideoMask, AudioMask}
 
 -- the key by two numbers, ours for C: 0 for the first means that there is none
-abbrev pub key_by : ℕ → ℕ → Key
-key_by given number = cond (eqb given 0) key.Absent (key.Given number)
+abbrev pub key_by : ℕ → ℕ → Option ℕ
+key_by given number = cond (eqb given 0) None (Some number)
 
 -- "if `audio_codec` is 2"
-abbrev pub is_adx : Codec → Bool
-is_adx (Value n) = eqb n 2
-is_adx Absent = false
+abbrev pub is_adx : Option ℕ → Bool
+is_adx (Some n) = eqb n 2
+is_adx None = false
 
 -- "only with a key". Without one no table counts; those of key 0 stand in their place
-abbrev pub unmasking_of : Key → Codec → Unmasking
-unmasking_of key.Absent codec = record { video = false; audio = false; keys = keys_of 0 }
-unmasking_of (key.Given number) codec = record { video = true; audio = is_adx codec; keys = keys_of number }
+abbrev pub unmasking_of : Option ℕ → Option ℕ → Unmasking
+unmasking_of None codec = record { video = false; audio = false; keys = keys_of 0 }
+unmasking_of (Some number) codec = record { video = true; audio = is_adx codec; keys = keys_of number }
 
 -- "and data type 0"
 abbrev pub is_masked : Bool → ℕ → Bool
@@ -40,7 +36,7 @@ clear_audio by data-type payload = cond (is_masked by.audio data-type) (masked_a
 abbrev pub video_mask : ℕ → Mask
 video_mask data-type = cond (is_masked true data-type) VideoMask Clear
 
-abbrev pub audio_mask : Codec → ℕ → Mask
+abbrev pub audio_mask : Option ℕ → ℕ → Mask
 audio_mask codec data-type = cond (is_masked (is_adx codec) data-type) AudioMask Clear
 
 abbrev pub cleared_by : ℕ → Mask → List ℕ → List ℕ

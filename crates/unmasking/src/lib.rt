@@ -5,15 +5,7 @@
 ghost use Rattle.std.specs.Prelude.{◌≡◌};
 ghost use Rattle.unmasking.specs.Unmasking.{key_by, is_adx, is_masked, unmasking_of, clear_video, clear_audio, video_mask, audio_mask, cleared_by, mask_number, mask_by};
 
-use codec::Codec;
 use key::Keys;
-
-// The key that a film is read with, if there is one. Key 0 is a key.
-#[derive(Clone, Copy)]
-pub enum Key {
-    Absent,
-    Given(u64),
-}
 
 // Which streams are masked, and with which tables.
 #[derive(Clone, Copy)]
@@ -24,7 +16,7 @@ pub struct Unmasking {
 }
 
 // The mask that a payload has: none, or that of a stream.
-#[derive(Clone, Copy)]
+#[derive(Clone, Copy, Debug, PartialEq, Eq)]
 pub enum Mask {
     Clear,
     VideoMask,
@@ -37,37 +29,35 @@ const ADX: u32 = 2;
 // The data type of a masked payload.
 const MASKED: u8 = 0;
 
-// The key by two numbers, as C gives it: with 0 for the first there is none.
-pub fn key_by(given: u8, number: u64) -> Key
+// The key by two numbers, as C gives it: with 0 for the first there is none. One function for this and `codec::codec_by` would be no
+// plainer than one line of each.
+pub fn key_by(given: u8, number: u64) -> Option<u64>
     ensures { result ≡ key_by given number }
 {
-    if given == 0 {
-        return Key::Absent;
-    }
-    Key::Given(number)
+    (given != 0).then_some(number)
 }
 
 // Whether audio of a codec is ADX, the only audio that is masked.
-pub fn is_adx(codec: Codec) -> bool
+pub fn is_adx(codec: Option<u32>) -> bool
     ensures { result ≡ is_adx codec }
 {
     match codec {
-        Codec::Value(number) => number == ADX,
-        Codec::Absent => false,
+        Some(number) => number == ADX,
+        None => false,
     }
 }
 
 // What a key unmasks in a film whose audio codec this is. Without a key nothing is, and no table is looked at.
-pub fn unmasking_of(key: Key, codec: Codec) -> Unmasking
+pub fn unmasking_of(key: Option<u64>, codec: Option<u32>) -> Unmasking
     ensures { result ≡ unmasking_of key codec }
 {
     match key {
-        Key::Absent => Unmasking {
+        None => Unmasking {
             video: false,
             audio: false,
             keys: key::key_table(0),
         },
-        Key::Given(number) => Unmasking {
+        Some(number) => Unmasking {
             video: true,
             audio: is_adx(codec),
             keys: key::key_table(number),
@@ -79,10 +69,7 @@ pub fn unmasking_of(key: Key, codec: Codec) -> Unmasking
 fn is_masked(stream: bool, data_type: u8) -> bool
     ensures { result ≡ is_masked stream data_type }
 {
-    if stream {
-        return data_type == MASKED;
-    }
-    false
+    stream && data_type == MASKED
 }
 
 // Makes a video payload of a data type clear.
@@ -110,19 +97,21 @@ pub fn video_mask(data_type: u8) -> Mask
     ensures { result ≡ video_mask data_type }
 {
     if is_masked(true, data_type) {
-        return Mask::VideoMask;
+        Mask::VideoMask
+    } else {
+        Mask::Clear
     }
-    Mask::Clear
 }
 
 // The mask of an audio payload of a data type, in a film whose audio codec this is.
-pub fn audio_mask(codec: Codec, data_type: u8) -> Mask
+pub fn audio_mask(codec: Option<u32>, data_type: u8) -> Mask
     ensures { result ≡ audio_mask codec data_type }
 {
     if is_masked(is_adx(codec), data_type) {
-        return Mask::AudioMask;
+        Mask::AudioMask
+    } else {
+        Mask::Clear
     }
-    Mask::Clear
 }
 
 // Makes a payload that has a mask clear under a key.
@@ -136,7 +125,7 @@ pub fn clear_by(payload: &mut [u8], number: u64, mask: Mask)
     }
 }
 
-// The number of a mask.
+// The number of a mask, as C reads it.
 pub fn mask_number(mask: Mask) -> u8
     ensures { result ≡ mask_number mask }
 {
@@ -147,15 +136,13 @@ pub fn mask_number(mask: Mask) -> u8
     }
 }
 
-// The mask that a number stands for: each but 1 and 2 for none.
+// The mask that a number stands for, as C gives it: each but 1 and 2 for none.
 pub fn mask_by(number: u8) -> Mask
     ensures { result ≡ mask_by number }
 {
-    if number == 1 {
-        return Mask::VideoMask;
+    match number {
+        1 => Mask::VideoMask,
+        2 => Mask::AudioMask,
+        _ => Mask::Clear,
     }
-    if number == 2 {
-        return Mask::AudioMask;
-    }
-    Mask::Clear
 }

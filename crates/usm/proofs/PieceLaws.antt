@@ -1,4 +1,6 @@
 -- A film written piece by piece through C is written as by the functions below: each call that is not refused is a call that goes well there. Assumes nothing.
+use Rattle.std.specs.Prelude.{Some, None, Result, Ok, Err}
+use Rattle.refusal.specs.declared.Refusal.{Refusal}
 use Prim.Native.Nat.{ℕ, ◌+◌, ◌≤◌}
 use mathlib.Core.Path.{◌≡◌, refl, sym, ap, ap₂, ◌∙◌}
 use mathlib.Core.List.{List, [], ◌∷◌, ◌++◌, map}
@@ -10,10 +12,7 @@ use lib.Seq.{sets}
 use lib.Dec.{ltb, eqb}
 use borrow.Author.Tests.{ltb-false}
 use Rattle.refusal.specs.declared.Cause.TheVariants.{ShortRoom}
-use Rattle.unmasking.specs.declared.Key.TheVariants.{Absent, Given}
 use Rattle.unmasking.specs.Unmasking.{key_by, mask_by}
-use Rattle.lent.specs.declared.Written.{Written}
-use Rattle.lent.specs.declared.Written.TheVariants.{Size, Refused}
 use Rattle.lent.specs.declared.SizeReply.{SizeReply}
 use Rattle.lent.specs.Written.{written_in, left_by, size_reply}
 use Rattle.list.proofs.ReplyLaws.{numbered}
@@ -27,26 +26,26 @@ use Rattle.usm.specs.Writes.{packing_by, WrittenAs}
 use Rattle.usm.specs.Pieces.{Calls, WentOnFor, put_for}
 
 -- an answer whose number is 0 is a size
-sized : (answer : Written) → (size_reply answer).number ≡ 0 → answer ≡ Size (size_reply answer).size
-sized (Size n) z = refl
-sized (Refused refusal) z = absurd (numbered refusal.cause z)
+sized : (answer : Result ℕ Refusal) → (size_reply answer).number ≡ 0 → answer ≡ Ok (size_reply answer).size
+sized (Ok n) z = refl
+sized (Err refusal) z = absurd (numbered refusal.cause z)
 
 -- the same of a reply
-module _ (answer : Written) (r : SizeReply) (q : r ≡ size_reply answer) (z : r.number ≡ 0) where
-  pub replied_size : Size r.size ≡ answer
-  replied_size = ap (λ (s : SizeReply). Size s.size) q ∙ sym (sized answer (sym (ap (λ (s : SizeReply). s.number) q) ∙ z))
+module _ (answer : Result ℕ Refusal) (r : SizeReply) (q : r ≡ size_reply answer) (z : r.number ≡ 0) where
+  pub replied_size : Ok r.size ≡ answer
+  replied_size = ap (λ (s : SizeReply). Ok s.size) q ∙ sym (sized answer (sym (ap (λ (s : SizeReply). s.number) q) ∙ z))
 
-pub written_so : (planned : Written) (bytes out out' : List ℕ) (r : SizeReply) → WrittenAs (written_in (length out) planned) bytes out r out' → r.number ≡ 0
-    → WritingAs planned bytes out (Size r.size) out'
+pub written_so : (planned : Result ℕ Refusal) (bytes out out' : List ℕ) (r : SizeReply) → WrittenAs (written_in (length out) planned) bytes out r out' → r.number ≡ 0
+    → WritingAs planned bytes out (Ok r.size) out'
 written_so planned bytes out out' r w z =
     let a = replied_size (written_in (length out) planned) r w.0 z in
-    (a, w.1 ∙ ap (λ (q : Written). left_by q out bytes) (sym a))
+    (a, w.1 ∙ ap (λ (q : Result ℕ Refusal). left_by q out bytes) (sym a))
 
 -- the number that C gives beside a key
 pub under : (given number : ℕ) → Under number (key_by given number)
 under given number = by (eqb given 0)
   where
-    by : (t : Bool) → Under number (cond t Absent (Given number))
+    by : (t : Bool) → Under number (cond t None (Some number))
     by true = tt
     by false = refl
 
@@ -67,15 +66,15 @@ module _ (asked : PackingBytes) (video audio : List ℕ) where
   put_below (calls ∷ others) = ap (λ (l : List ℕ). put_for calls ++ l) (put_below others)
 
 -- what is written where a film of this length is planned: it, or the output is too short
-pub written_whole : (planned : Written) (bytes out out' : List ℕ) (r : SizeReply) → planned ≡ Size (length bytes) → WrittenAs (written_in (length out) planned) bytes out r out'
+pub written_whole : (planned : Result ℕ Refusal) (bytes out out' : List ℕ) (r : SizeReply) → planned ≡ Ok (length bytes) → WrittenAs (written_in (length out) planned) bytes out r out'
     → (r.number ≡ 16) ⊎ (take r.size out' ≡ bytes)
 written_whole planned bytes out out' r p w = by (ltb (length out) (length bytes)) refl
   where
     by : (t : Bool) → ltb (length out) (length bytes) ≡ t → (r.number ≡ 16) ⊎ (take r.size out' ≡ bytes)
     by true e =
-        let a : written_in (length out) planned ≡ Refused (record { cause = ShortRoom (length bytes); place = 0 }) = ap (written_in (length out)) p ∙ rw e in
-        inl (ap (λ (s : SizeReply). s.number) w.0 ∙ ap (λ (q : Written). (size_reply q).number) a)
+        let a : written_in (length out) planned ≡ Err (record { cause = ShortRoom (length bytes); place = 0 }) = ap (written_in (length out)) p ∙ rw e in
+        inl (ap (λ (s : SizeReply). s.number) w.0 ∙ ap (λ (q : Result ℕ Refusal). (size_reply q).number) a)
     by false e =
-        let a : written_in (length out) planned ≡ Size (length bytes) = ap (written_in (length out)) p ∙ rw e in
-        let s : r.size ≡ length bytes = ap (λ (s : SizeReply). s.size) w.0 ∙ ap (λ (q : Written). (size_reply q).size) a in
-        inr (first_bytes bytes out out' r.size (sym s) (omega (arith, ltb-false (length out) (length bytes) e)) (w.1 ∙ ap (λ (q : Written). left_by q out bytes) a))
+        let a : written_in (length out) planned ≡ Ok (length bytes) = ap (written_in (length out)) p ∙ rw e in
+        let s : r.size ≡ length bytes = ap (λ (s : SizeReply). s.size) w.0 ∙ ap (λ (q : Result ℕ Refusal). (size_reply q).size) a in
+        inr (first_bytes bytes out out' r.size (sym s) (omega (arith, ltb-false (length out) (length bytes) e)) (w.1 ∙ ap (λ (q : Result ℕ Refusal). left_by q out bytes) a))

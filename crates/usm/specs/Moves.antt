@@ -1,6 +1,5 @@
 -- A film moved for C: what is replied, and the output after it. Ours, beyond the rules.
-use Rattle.std.specs.Prelude.{List, ℕ, length}
-use Rattle.codec.specs.declared.Codec.{Codec}
+use Rattle.std.specs.Prelude.{List, ℕ, length, Option}
 use Rattle.codec.specs.Numbers.{codec_by}
 use Rattle.lent.specs.declared.SizeReply.{SizeReply}
 use Rattle.lent.specs.Written.{written_in}
@@ -12,10 +11,10 @@ use Rattle.usm.specs.declared.moving.CodecBytes.{CodecBytes}
 use Rattle.usm.specs.Writes.{WrittenAs}
 
 -- the codecs that are asked for
-abbrev pub video_codec : CodecBytes → Codec
+abbrev pub video_codec : CodecBytes → Option ℕ
 video_codec asked = codec_by asked.has_video_codec asked.video_codec
 
-abbrev pub audio_codec : CodecBytes → Codec
+abbrev pub audio_codec : CodecBytes → Option ℕ
 audio_codec asked = codec_by asked.has_audio_codec asked.audio_codec
 
 -- from the old builder's container

@@ -1,9 +1,8 @@
 -- A film written piece by piece through C. Ours, beyond the rules.
-use Rattle.std.specs.Prelude.{ℕ, ◌≡◌, List, [], ◌∷◌, ◌++◌, Bool, cond, length, take}
+use Rattle.std.specs.Prelude.{ℕ, ◌≡◌, List, [], ◌∷◌, ◌++◌, Bool, cond, length, take, Ok}
 use Rattle.signature.specs.Signatures.{contents_end, stands_at}
 use Rattle.word.specs.Bytes.{zeros}
 use Rattle.unmasking.specs.Unmasking.{mask_by}
-use Rattle.lent.specs.declared.Written.TheVariants.{Size}
 use Rattle.lent.specs.declared.SizeReply.{SizeReply}
 use Rattle.lent.specs.Written.{written_in, size_reply}
 use Rattle.write_plan.specs.declared.Packing.{Packing}
@@ -31,7 +30,7 @@ StoredFor key mask payload r payload' =
 
 -- the ends
 abbrev pub EndsFor : Bool → List ℕ → SizeReply → List ℕ → Type 0
-EndsFor audio out = WrittenAs (written_in (length out) (Size (length (ends_of audio)))) (ends_of audio) out
+EndsFor audio out = WrittenAs (written_in (length out) (Ok (length (ends_of audio)))) (ends_of audio) out
 
 -- ---- who writes a film so
 

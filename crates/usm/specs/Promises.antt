@@ -1,7 +1,6 @@
 -- What is promised of a film through C. Each is proved under the same name in proofs/Promises.antt.
-use Rattle.std.specs.Prelude.{ℕ, ◌≡◌, List, ◌++◌, ◌⊎◌, length, take}
+use Rattle.std.specs.Prelude.{ℕ, ◌≡◌, List, ◌++◌, ◌⊎◌, length, take, Option}
 use Rattle.reading.specs.declared.Reading.{Reading}
-use Rattle.unmasking.specs.declared.Key.{Key}
 use Rattle.replies.specs.declared.FilmReply.{FilmReply}
 use Rattle.lent.specs.declared.SizeReply.{SizeReply}
 use Rattle.write_pieces.specs.Writers.{bytes_by}
@@ -13,13 +12,13 @@ use Rattle.usm.specs.Pieces.{HeaderFor, EndsFor, Calls, WentOnFor, put_for}
 -- "Over a container, no key and no lack of one changes a refusal, name, codec, size": two calls that differ in the key have one reply
 abbrev pub NoKeyChangesTheReply : Type 0
 NoKeyChangesTheReply =
-    (container : List ℕ) (reading : Reading) (key key' : Key) (fallback video audio : List ℕ) (r r' : FilmReply) (video_after audio_after video_after' audio_after' : List ℕ)
+    (container : List ℕ) (reading : Reading) (key key' : Option ℕ) (fallback video audio : List ℕ) (r r' : FilmReply) (video_after audio_after video_after' audio_after' : List ℕ)
     → FilmReplied container reading key fallback video audio r video_after audio_after → FilmReplied container reading key' fallback video audio r' video_after' audio_after' → r ≡ r'
 
 -- "Every refusal leaves both outputs .. unchanged": every number but 0
 abbrev pub RefusalsLeaveBothOutputs : Type 0
 RefusalsLeaveBothOutputs =
-    (container : List ℕ) (reading : Reading) (key : Key) (fallback video audio : List ℕ) (r : FilmReply) (video_after audio_after : List ℕ)
+    (container : List ℕ) (reading : Reading) (key : Option ℕ) (fallback video audio : List ℕ) (r : FilmReply) (video_after audio_after : List ℕ)
     → FilmReplied container reading key fallback video audio r video_after audio_after → (r.number ≡ 0 → ⊥) → (video_after ≡ video) × (audio_after ≡ audio)
 
 -- A film that is written piece by piece, where no call is refused: what each output holds afterwards, put one after the other, is what `usm_write` writes for the same

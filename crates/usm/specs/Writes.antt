@@ -1,8 +1,8 @@
 -- A film written for C: what is asked for, what is replied, and the output after it. Ours, beyond the rules.
-use Rattle.std.specs.Prelude.{ℕ, ◌≡◌, List, not, length, eqb}
+use Rattle.std.specs.Prelude.{ℕ, ◌≡◌, List, not, length, eqb, Result}
+use Rattle.refusal.specs.declared.Refusal.{Refusal}
 use Rattle.codec.specs.Numbers.{codec_by}
 use Rattle.unmasking.specs.Unmasking.{key_by}
-use Rattle.lent.specs.declared.Written.{Written}
 use Rattle.lent.specs.declared.SizeReply.{SizeReply}
 use Rattle.lent.specs.Written.{written_in, left_by, size_reply}
 use Rattle.write_plan.specs.declared.Packing.{Packing}
@@ -20,7 +20,7 @@ packing_by asked = record {
 }
 
 -- what is replied where so many bytes are to be written into an output, or none are, and the output after it
-abbrev pub WrittenAs : Written → List ℕ → List ℕ → SizeReply → List ℕ → Type 0
+abbrev pub WrittenAs : Result ℕ Refusal → List ℕ → List ℕ → SizeReply → List ℕ → Type 0
 WrittenAs answer bytes out r out' = (r ≡ size_reply answer) × (out' ≡ left_by answer out bytes)
 
 -- the same for a film. Where there is no audio, the slice that is given for it is not looked at

@@ -88,12 +88,10 @@ pub extern "C" fn usm_list(
 {
     let plan = list::list_plan(container, reading, list.len());
     let mut place = plan.start;
-    let mut filled = 0;
-    while filled < plan.records {
+    for filled in 0..plan.records {
         let step = list::record_at(container, place, plan.reading);
         list[filled] = step.made;
         place = step.next;
-        filled += 1;
     }
     plan.reply
 }

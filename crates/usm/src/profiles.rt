@@ -1,12 +1,11 @@
 // The delivery profile for C, of a whole film and of one that is read piece by piece. Request 14.
-ghost use Rattle.std.specs.Prelude.{◌≡◌, not, eqb};
-ghost use Rattle.profile.specs.declared.Profiled.TheVariants.{Judged};
+ghost use Rattle.std.specs.Prelude.{◌≡◌, not, eqb, Ok};
 ghost use Rattle.profile.specs.Profiles.{profile_of, profile_reply};
 ghost use Rattle.profile.specs.Steps.{begun, stepped, ended};
 
 use crate::stepping::AudioBytes;
+use profile::ProfileReply;
 use profile::steps::Profiling;
-use profile::{ProfileReply, Profiled};
 
 // Whether a film is plain: the first rule that it breaks, and where.
 #[unsafe(no_mangle)]
@@ -35,7 +34,7 @@ pub extern "C" fn usm_profile_step(window: &[u8], place: usize, known: Profiling
 // Whether a film of `total` bytes is plain, by what is known after its last chunk.
 #[unsafe(no_mangle)]
 pub extern "C" fn usm_profile_end(total: usize, known: Profiling) -> ProfileReply
-    ensures { result ≡ profile_reply (Judged (ended total known)) }
+    ensures { result ≡ profile_reply (Ok (ended total known)) }
 {
-    profile::profile_reply(Profiled::Judged(profile::steps::end(total, known)))
+    profile::profile_reply(Ok(profile::steps::end(total, known)))
 }

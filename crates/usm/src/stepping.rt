@@ -81,8 +81,6 @@ pub extern "C" fn usm_clear_piece(
 ) -> u8
     ensures { (result ≡ cond (is_piece total place (length row.now) (length piece.old)) 1 0) × (piece.new ≡ piece_left key (mask_by mask) total place row.now piece.old) }
 {
-    if payload_pieces::clear_piece(key, unmasking::mask_by(mask), total, place, row, piece) {
-        return 1;
-    }
-    0
+    let mask = unmasking::mask_by(mask);
+    u8::from(payload_pieces::clear_piece(key, mask, total, place, row, piece))
 }

@@ -2,7 +2,7 @@
 #![tactic(auto)]
 
 ghost use Rattle.std.specs.Prelude.{◌≡◌};
-ghost use Rattle.utf8.specs.Utf8.{due_after, due_next, is_utf8};
+ghost use Rattle.utf8.specs.Utf8.{due, due_after, due_next, is_utf8};
 
 // What is due within a character: so many bytes, the next of which lies between these two.
 #[derive(Clone, Copy)]
@@ -12,122 +12,71 @@ struct Due {
     high: u8,
 }
 
-// What is due after a character's first byte.
+// A character may begin.
+const NONE: Due = Due {
+    more: 0,
+    low: 0,
+    high: 0,
+};
+
+// No byte may follow, and one has to.
+const NEVER: Due = Due {
+    more: 1,
+    low: 1,
+    high: 0,
+};
+
+// So many more bytes are due, the next of which lies between these two.
+fn more(count: u8, low: u8, high: u8) -> Due
+    ensures { result ≡ due count low high }
+{
+    Due {
+        more: count,
+        low,
+        high,
+    }
+}
+
+// What is due after a character's first byte: the rows of the Unicode Standard's table 3-7.
+#[tactic(auto, unfolding(crate::specs::Utf8::due_after))]
 fn due_after(byte: u8) -> Due
     ensures { result ≡ due_after byte }
 {
-    if byte < 0x80 {
-        return Due {
-            more: 0,
-            low: 0,
-            high: 0,
-        };
-    }
-    if byte < 0xC2 {
-        return Due {
-            more: 1,
-            low: 1,
-            high: 0,
-        };
-    }
-    if byte < 0xE0 {
-        return Due {
-            more: 1,
-            low: 0x80,
-            high: 0xBF,
-        };
-    }
-    if byte == 0xE0 {
-        return Due {
-            more: 2,
-            low: 0xA0,
-            high: 0xBF,
-        };
-    }
-    if byte == 0xED {
-        return Due {
-            more: 2,
-            low: 0x80,
-            high: 0x9F,
-        };
-    }
-    if byte < 0xF0 {
-        return Due {
-            more: 2,
-            low: 0x80,
-            high: 0xBF,
-        };
-    }
-    if byte == 0xF0 {
-        return Due {
-            more: 3,
-            low: 0x90,
-            high: 0xBF,
-        };
-    }
-    if byte < 0xF4 {
-        return Due {
-            more: 3,
-            low: 0x80,
-            high: 0xBF,
-        };
-    }
-    if byte == 0xF4 {
-        return Due {
-            more: 3,
-            low: 0x80,
-            high: 0x8F,
-        };
-    }
-    Due {
-        more: 1,
-        low: 1,
-        high: 0,
+    match byte {
+        0x00..=0x7F => NONE,
+        0xC2..=0xDF => more(1, 0x80, 0xBF),
+        0xE0 => more(2, 0xA0, 0xBF),
+        0xED => more(2, 0x80, 0x9F),
+        0xE1..=0xEF => more(2, 0x80, 0xBF),
+        0xF0 => more(3, 0x90, 0xBF),
+        0xF1..=0xF3 => more(3, 0x80, 0xBF),
+        0xF4 => more(3, 0x80, 0x8F),
+        _ => NEVER,
     }
 }
 
 // What is due after one more byte.
+#[tactic(auto, unfolding(crate::specs::Utf8::due_next))]
 fn due_next(now: Due, byte: u8) -> Due
     ensures { result ≡ due_next now byte }
 {
     if now.more == 0 {
-        return due_after(byte);
-    }
-    if byte < now.low {
-        return Due {
-            more: 1,
-            low: 1,
-            high: 0,
-        };
-    }
-    if now.high < byte {
-        return Due {
-            more: 1,
-            low: 1,
-            high: 0,
-        };
-    }
-    Due {
-        more: now.more - 1,
-        low: 0x80,
-        high: 0xBF,
+        due_after(byte)
+    } else if now.low <= byte && byte <= now.high {
+        more(now.more - 1, 0x80, 0xBF)
+    } else {
+        NEVER
     }
 }
 
 // Whether bytes are well-formed UTF-8.
+#[tactic(auto, using(crate::proofs::Utf8Laws::next_byte, crate::proofs::Utf8Laws::no_byte))]
 pub fn is_utf8(bytes: &[u8]) -> bool
     ensures { result ≡ is_utf8 bytes.now }
 {
-    let mut now = Due {
-        more: 0,
-        low: 0,
-        high: 0,
-    };
-    let mut i = 0;
-    while i < bytes.len() {
-        let next = due_next(now, bytes[i]);
-        now = next;
-        i += 1;
+    let mut now = NONE;
+    for byte in bytes {
+        now = due_next(now, *byte);
     }
     now.more == 0
 }

@@ -1,12 +1,11 @@
 -- A loop that puts what each chunk gives into an output, each piece where the one before ends: when it is over, all pieces stand there, one after the
 -- other. The pieces are lists of any type. Assumes nothing.
-use Rattle.std.proofs.Common.{◌≡◌, ℕ, ◌+◌, ◌≤◌, List, [], ◌∷◌, length, sym, ap, ◌∙◌, add-zero, zero-add, arith, length-append}
+use Rattle.std.proofs.Common.{◌≡◌, ℕ, ◌+◌, ◌≤◌, List, [], ◌∷◌, length, sym, ap, ◌∙◌, add-zero, zero-add, arith, length-append, Some, None, Ok, Err}
 use lib.Seq.{sets, length-sets}
 use Rattle.laws.proofs.SetsLaws.{sets_append}
 use Rattle.refusal.specs.declared.Refusal.{Refusal}
 use Rattle.reading.specs.declared.Applied.{Applied}
 use Rattle.chunk.specs.declared.Chunk.{Chunk}
-use Rattle.chunk.specs.declared.ChunkStep.TheVariants.{Over, Found, Refused}
 use Rattle.chunk.specs.Chunks.{chunk_at}
 use Rattle.walk.specs.Walks.{walk_from, joined}
 use Rattle.walk.proofs.WalkLaws.{walk_found}
@@ -58,13 +57,13 @@ module _ {A : Type 0} (piece : Chunk → List A) where
       pub put-length : length out ≡ length out₀
       put-length = sym (length-sets out end rest) ∙ ap (λ (o : Output A). length o.holds) left ∙ length-sets out₀ 0 all
 
-      pub put-over : chunk_at container reading c ≡ Over → output end out ≡ output (length all) (sets out₀ 0 all)
+      pub put-over : chunk_at container reading c ≡ Ok None → output end out ≡ output (length all) (sets out₀ 0 all)
       put-over e = (loop_over put container reading start (output 0 out₀) c (output end out) loop e).0 ∙ whole_put
 
-      pub put_refused : (refusal : Refusal) → chunk_at container reading c ≡ Refused refusal → output end out ≡ output (length all) (sets out₀ 0 all)
+      pub put_refused : (refusal : Refusal) → chunk_at container reading c ≡ Err refusal → output end out ≡ output (length all) (sets out₀ 0 all)
       put_refused refusal e = (loop_refused put container reading start (output 0 out₀) c (output end out) loop refusal e).0 ∙ whole_put
 
-      module _ (chunk : Chunk) (e : chunk_at container reading c ≡ Found chunk) where
+      module _ (chunk : Chunk) (e : chunk_at container reading c ≡ Ok (Some chunk)) where
         -- the piece ends no further than all pieces do
         pub put-fits : end + length (piece chunk) ≤ length all
         unfolding joined

@@ -1,11 +1,9 @@
 -- A loop that adds up: count and sizes of the chunks, and that they fit the container. Assumes nothing.
-use Rattle.std.proofs.Common.{◌≡◌, ℕ, ◌+◌, ◌≤◌, List, [], ◌∷◌, length, sym, ap, ◌∙◌, add-zero, zero-add, arith}
+use Rattle.std.proofs.Common.{◌≡◌, ℕ, ◌+◌, ◌≤◌, List, [], ◌∷◌, length, sym, ap, ◌∙◌, add-zero, zero-add, arith, Some, None, Ok, Err}
 use Rattle.refusal.specs.declared.Refusal.{Refusal}
 use Rattle.reading.specs.declared.Applied.{Applied}
 use Rattle.chunk.specs.declared.Chunk.{Chunk}
-use Rattle.chunk.specs.declared.ChunkStep.TheVariants.{Over, Found, Refused}
 use Rattle.chunk.specs.Chunks.{chunk_at}
-use Rattle.walk.specs.declared.Measured.TheVariants.{Sizes, Stopped}
 use Rattle.walk.specs.Walks.{walk_from, video_in, audio_in, size_of, video_size, audio_size, measure_of}
 use Rattle.walk.proofs.WalkLaws.{sizes_fit, count_fits}
 use Rattle.walk.proofs.LoopLaws.{gathered, Loop, loop_goes_on, loop_over, loop_refused}
@@ -50,20 +48,20 @@ sums_fit container reading start c s loop =
     omega (arith, n, v, a, sizes_fit container reading start, count_fits container reading start)
 
 module _ (container : List ℕ) (reading : Applied) (start c : ℕ) (s : Sums) (loop : Counting container reading start c s) where
-  pub sums_over : chunk_at container reading c ≡ Over → Sizes s.count s.video s.audio ≡ measure_of (walk_from container reading start)
+  pub sums_over : chunk_at container reading c ≡ Ok None → Ok (record { count = s.count; video = s.video; audio = s.audio }) ≡ measure_of (walk_from container reading start)
   unfolding measure_of
   sums_over e =
       let l = loop_over added container reading start (sums 0 0 0) c s loop e in
       rw (l.0 ∙ all_added (walk_from container reading start).chunks, ← l.1)
 
-  pub sums_found : (chunk : Chunk) → chunk_at container reading c ≡ Found chunk → Counting container reading start chunk.next (added s chunk)
+  pub sums_found : (chunk : Chunk) → chunk_at container reading c ≡ Ok (Some chunk) → Counting container reading start chunk.next (added s chunk)
   sums_found chunk e = loop_goes_on added container reading start (sums 0 0 0) c s loop chunk e
 
   -- with a chunk more the sums still fit
-  pub found_fits : (chunk : Chunk) → chunk_at container reading c ≡ Found chunk
+  pub found_fits : (chunk : Chunk) → chunk_at container reading c ≡ Ok (Some chunk)
       → (s.count + 1 ≤ length container) × (s.video + video_in chunk.kind chunk.len + (s.audio + audio_in chunk.kind chunk.len) ≤ length container)
   found_fits chunk e = sums_fit container reading start chunk.next (added s chunk) (sums_found chunk e)
 
-  pub sums_refused : (refusal : Refusal) → chunk_at container reading c ≡ Refused refusal → Stopped refusal ≡ measure_of (walk_from container reading start)
+  pub sums_refused : (refusal : Refusal) → chunk_at container reading c ≡ Err refusal → Err refusal ≡ measure_of (walk_from container reading start)
   unfolding measure_of
   sums_refused refusal e = rw (← (loop_refused added container reading start (sums 0 0 0) c s loop refusal e).1)

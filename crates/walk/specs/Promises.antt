@@ -1,11 +1,10 @@
 -- What a walk promises beyond its definition. Each is proved under the same name in proofs/Promises.antt.
 -- That a walk ends on every container is not among them: `measure` has an answer on every input, as every function here has.
-use Rattle.std.specs.Prelude.{◌≡◌, ℕ, ◌+◌, ◌-◌, ◌≤◌, true, List, [], ◌∷◌, length}
+use Rattle.std.specs.Prelude.{◌≡◌, ℕ, ◌+◌, ◌-◌, ◌≤◌, true, List, [], ◌∷◌, length, Err}
 use Rattle.word.specs.Numbers.{be16}
 use Rattle.refusal.specs.declared.Refusal.{Refusal}
 use Rattle.reading.specs.declared.Applied.{Applied}
 use Rattle.chunk.specs.declared.Chunk.{Chunk}
-use Rattle.chunk.specs.declared.ChunkStep.TheVariants.{Refused}
 use Rattle.chunk.specs.Chunks.{is_taken, chunk_at}
 use Rattle.walk.specs.Walks.{clean, stopped, go_on, walk_from, video_size, audio_size}
 
@@ -18,7 +17,7 @@ WalkGoesByChunks =
 abbrev pub RefusedByAChunk : Type 0
 RefusedByAChunk =
     (container : List ℕ) (reading : Applied) (c : ℕ) (refusal : Refusal) → (walk_from container reading c).ending ≡ stopped refusal
-    → chunk_at container reading refusal.place ≡ Refused refusal
+    → chunk_at container reading refusal.place ≡ Err refusal
 
 -- Both stream sizes together never exceed the bytes that are left where the walk starts, in both payload modes and for every audio choice.
 abbrev pub SizesFitWhatIsLeft : Type 0

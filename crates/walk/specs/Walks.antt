@@ -1,15 +1,12 @@
 -- Rules C: the chunks of a container from a place on, how they end, and what they come to.
-use Rattle.std.specs.Prelude.{ℕ, zero, suc, ◌+◌, ◌-◌, List, [], ◌∷◌, ◌++◌, length}
+use Rattle.std.specs.Prelude.{ℕ, zero, suc, ◌+◌, ◌-◌, List, [], ◌∷◌, ◌++◌, length, Option, Some, None, Result, Ok, Err}
+use Rattle.walk.specs.declared.Sizes.{Sizes}
 use Rattle.refusal.specs.declared.Refusal.{Refusal}
 use Rattle.reading.specs.declared.Applied.{Applied}
 use Rattle.chunk.specs.declared.Kind.{Kind}
 use Rattle.chunk.specs.declared.Kind.TheVariants.{Video, Audio, Other, End}
 use Rattle.chunk.specs.declared.Chunk.{Chunk}
-use Rattle.chunk.specs.declared.ChunkStep.{ChunkStep}
-use Rattle.chunk.specs.declared.ChunkStep.TheVariants.{Over, Found, Refused}
 use Rattle.chunk.specs.Chunks.{chunk_at}
-use Rattle.walk.specs.declared.Measured.{Measured}
-use Rattle.walk.specs.declared.Measured.TheVariants.{Sizes, Stopped}
 
 -- "clean end", or "the walk's first refusal in reading order"
 pub data Ending : Type 0 where
@@ -25,10 +22,10 @@ abbrev pub onto : Chunk → Walk → Walk
 onto chunk walk = record { chunks = chunk ∷ walk.chunks; ending = walk.ending }
 
 -- "next at c + 8 + block size": a step, and the rest from the chunk's next place on
-abbrev pub go_on : ChunkStep → (ℕ → Walk) → Walk
-go_on Over rest = record { chunks = []; ending = clean }
-go_on (Found chunk) rest = onto chunk (rest chunk.next)
-go_on (Refused refusal) rest = record { chunks = []; ending = stopped refusal }
+abbrev pub go_on : Result (Option Chunk) Refusal → (ℕ → Walk) → Walk
+go_on (Ok None) rest = record { chunks = []; ending = clean }
+go_on (Ok (Some chunk)) rest = onto chunk (rest chunk.next)
+go_on (Err refusal) rest = record { chunks = []; ending = stopped refusal }
 
 -- at most n chunks
 unfoldable pub walk_for : List ℕ → Applied → ℕ → ℕ → Walk
@@ -69,9 +66,9 @@ abbrev pub audio_size : List Chunk → ℕ
 audio_size = size_of audio_in
 
 -- "chunk count" and "both sizes", "sums over the chunk rules"; of a walk that does not end clean, its refusal
-abbrev pub measured_as : List Chunk → Ending → Measured
-measured_as chunks clean = Sizes (length chunks) (video_size chunks) (audio_size chunks)
-measured_as chunks (stopped refusal) = Stopped refusal
+abbrev pub measured_as : List Chunk → Ending → Result Sizes Refusal
+measured_as chunks clean = Ok (record { count = length chunks; video = video_size chunks; audio = audio_size chunks })
+measured_as chunks (stopped refusal) = Err refusal
 
-unfoldable pub measure_of : Walk → Measured
+unfoldable pub measure_of : Walk → Result Sizes Refusal
 measure_of walk = measured_as walk.chunks walk.ending

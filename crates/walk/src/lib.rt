@@ -7,19 +7,16 @@ mod ahead;
 ghost use Rattle.std.specs.Prelude.{◌≡◌};
 ghost use Rattle.walk.specs.Walks.{video_in, audio_in, walk_from, measure_of};
 
-use chunk::{ChunkStep, Kind};
+use chunk::Kind;
 use reading::Applied;
 use refusal::Refusal;
 
 // What the chunks come to, or the first refusal.
 #[derive(Clone, Copy)]
-pub enum Measured {
-    Sizes {
-        count: usize,
-        video: usize,
-        audio: usize,
-    },
-    Stopped(Refusal),
+pub struct Sizes {
+    pub count: usize,
+    pub video: usize,
+    pub audio: usize,
 }
 
 // How much of a payload goes to video.
@@ -48,7 +45,7 @@ pub fn audio_in(kind: Kind, len: usize) -> usize
 
 // The count of the chunks from a place on and the sizes of both streams, or the first refusal. `reading` is how this film
 // is read, as `chunk::chunk_at` has it.
-pub fn measure(container: &[u8], place: usize, reading: Applied) -> Measured
+pub fn measure(container: &[u8], place: usize, reading: Applied) -> Result<Sizes, Refusal>
     ensures { result ≡ measure_of (walk_from container.now reading place) }
 {
     let mut at = place;
@@ -56,26 +53,17 @@ pub fn measure(container: &[u8], place: usize, reading: Applied) -> Measured
     let mut video: usize = 0;
     let mut audio: usize = 0;
     let mut bits: usize = 0;
-    loop {
-        match chunk::chunk_at(container, at, reading) {
-            ChunkStep::Over => {
-                return Measured::Sizes {
-                    count: ahead::kept(count, bits),
-                    video,
-                    audio,
-                };
-            }
-            ChunkStep::Found(chunk) => {
-                let kind = chunk.kind;
-                count += 1;
-                video += video_in(kind, chunk.len);
-                audio += audio_in(kind, chunk.len);
-                bits += ahead::touched(container, at, chunk.next);
-                at = chunk.next;
-            }
-            ChunkStep::Refused(refusal) => {
-                return Measured::Stopped(refusal);
-            }
-        }
+    while let Some(chunk) = chunk::chunk_at(container, at, reading)? {
+        let kind = chunk.kind;
+        count += 1;
+        video += video_in(kind, chunk.len);
+        audio += audio_in(kind, chunk.len);
+        bits += ahead::touched(container, at, chunk.next);
+        at = chunk.next;
     }
+    Ok(Sizes {
+        count: ahead::kept(count, bits),
+        video,
+        audio,
+    })
 }

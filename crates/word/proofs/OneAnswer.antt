@@ -1,5 +1,5 @@
 -- No second answer meets a contract of this crate: what a caller learns makes two results one. Assumes nothing.
-use mathlib.Core.Path.{◌≡◌}
+use Rattle.std.proofs.Common.{◌≡◌}
 use Rattle.laws.proofs.OneAnswer.{no_second_answer}
 use Rattle.word.proofs.left_from.Reads as left-from
 use Rattle.word.proofs.read8.Reads as read8

@@ -1,4 +1,5 @@
 -- A table is put as its head, its cell, its column's name, a zero and its data: each has room where the table has, and together they are the table. Assumes nothing.
+use Rattle.std.specs.Prelude.{Option, Some, None}
 use Prim.Native.Nat.{ℕ, ◌+◌, ◌≤◌}
 use mathlib.Core.Path.{◌≡◌}
 use mathlib.Core.List.{List, [], ◌∷◌, ◌++◌}
@@ -7,8 +8,6 @@ use lib.ListN.{length}
 use Rattle.laws.specs.Outputs.{Put}
 use Rattle.laws.proofs.PutLaws.{Left, all_left, less_left, left_fits, next_fits, put_then}
 use Rattle.signature.specs.Signatures.{CRID, filename}
-use Rattle.codec.specs.declared.Codec.{Codec}
-use Rattle.codec.specs.declared.Codec.TheVariants.{Value, Absent}
 use Rattle.word.specs.Bytes.{bytes32}
 use Rattle.write_blocks.specs.Blocks.{block_of}
 use Rattle.write_blocks.specs.Tables.{empty_table, table_head, table_with, name_table, codec_table}
@@ -51,11 +50,11 @@ pub name_block_lem : (cell name : List ℕ) → cell ≡ bytes32 0 ++ bytes32 (l
 unfolding name_table
 name_block_lem cell name e = rw e
 
-module _ (letters : ℕ) (column : List ℕ) (codec : Codec) where
-  pub codec_block_lem : (cell : List ℕ) (n : ℕ) → cell ≡ bytes32 n → codec ≡ Value n → block_of letters (table_with 0x54 column cell []) ≡ block_of letters (codec_table column codec)
+module _ (letters : ℕ) (column : List ℕ) (codec : Option ℕ) where
+  pub codec_block_lem : (cell : List ℕ) (n : ℕ) → cell ≡ bytes32 n → codec ≡ Some n → block_of letters (table_with 0x54 column cell []) ≡ block_of letters (codec_table column codec)
   unfolding codec_table
   codec_block_lem cell n e f = rw (e, f)
 
-  pub absent_block : codec ≡ Absent → block_of letters empty_table ≡ block_of letters (codec_table column codec)
+  pub absent_block : codec ≡ None → block_of letters empty_table ≡ block_of letters (codec_table column codec)
   unfolding codec_table
   absent_block f = rw f

@@ -3,7 +3,7 @@
 // From the Rust: nothing. Its builder writes another container.
 #![tactic(auto)]
 
-ghost use Rattle.std.specs.Prelude.{◌≡◌, ◌+◌, ◌≤◌, ◌<◌, ◌^◌, max, length, drop};
+ghost use Rattle.std.specs.Prelude.{◌≡◌, ◌+◌, ◌≤◌, ◌<◌, ◌^◌, length, drop};
 ghost use Rattle.std.proofs.lemmas.List.Edits.{sets};
 ghost use Rattle.laws.specs.Outputs.{Put};
 ghost use Rattle.word.specs.Bytes.{zeros, padding};
@@ -13,9 +13,9 @@ ghost use Rattle.write_plan.specs.Payloads.{stored_as};
 ghost use Rattle.write_plan.specs.Films.{letters_of, bytes_of, in_each, codec_in, header_blocks, next_chunk, chunk_blocks, film_bytes};
 ghost use Rattle.write.specs.Writing.{Writing, HeaderWriting, HeadWriting, ends_of, EndsWriting};
 
-use codec::Codec;
-use lent::Written;
+use refusal::Refusal;
 use unmasking::Unmasking;
+use write_blocks::PAYLOAD;
 use write_plan::{Packing, Stream};
 
 // The type of a name's column: data, stored in the row.
@@ -42,14 +42,21 @@ fn put(out: &mut [u8], at: usize, bytes: &[u8]) -> usize
     end
 }
 
+// Puts zeros.
+fn put_zeros(out: &mut [u8], at: usize, count: usize) -> usize
+    requires { (at + count ≤ length out.old) × (count ≤ 0x20) }
+    ensures { Put (zeros count) out.old at out.new result }
+{
+    let none = [0u8; 32];
+    put(out, at, &none[..count])
+}
+
 // Puts the zeros that `len` bytes lack to a multiple of 0x20.
 fn put_padding(out: &mut [u8], at: usize, len: usize) -> usize
     requires { at + padding len ≤ length out.old }
     ensures { Put (zeros (padding len)) out.old at out.new result }
 {
-    let count = word::padding(len);
-    let none = [0u8; 32];
-    put(out, at, &none[..count])
+    put_zeros(out, at, word::padding(len))
 }
 
 // Puts the head of a block that holds `len` bytes.
@@ -111,16 +118,16 @@ fn put_table_block(
 // ---- the header
 
 // Puts the block that says a codec, or that there is none.
-fn put_codec(out: &mut [u8], at: usize, letters: usize, column: &[u8], codec: Codec) -> usize
+fn put_codec(out: &mut [u8], at: usize, letters: usize, column: &[u8], codec: Option<u32>) -> usize
     requires { (at + length (block_of letters (codec_table column.now codec)) ≤ length out.old) × (length column.now < 2 ^ 16) }
     ensures { Put (block_of letters (codec_table column.now codec)) out.old at out.new result }
 {
     match codec {
-        Codec::Value(number) => {
+        Some(number) => {
             let cell = word::bytes32(number);
             put_table_block(out, at, letters, CODEC, column, &cell, b"")
         }
-        Codec::Absent => put_block(
+        None => put_block(
             out,
             at,
             letters,
@@ -272,16 +279,6 @@ fn put_next(
     )
 }
 
-// The longer of two lengths.
-fn longer(some: usize, other: usize) -> usize
-    ensures { result ≡ max some other }
-{
-    if some < other {
-        return other;
-    }
-    some
-}
-
 // Puts the chunks of both streams by turns.
 fn put_chunks(
     out: &mut [u8],
@@ -293,14 +290,13 @@ fn put_chunks(
     requires { (start + length (bytes_of (chunk_blocks unmasking video.now audio.now)) ≤ length out.old) × (length video.now < 2 ^ 32) × (length audio.now < 2 ^ 32) }
     ensures { Put (bytes_of (chunk_blocks unmasking video.now audio.now)) out.old start out.new result }
 {
-    let longest = longer(video.len(), audio.len());
+    let longest = video.len().max(audio.len());
     let mut at = start;
-    let mut from = 0;
-    while from < longest {
+    for round in 0..longest.div_ceil(PAYLOAD) {
+        let from = round * PAYLOAD;
         let middle = put_next(out, at, Stream::Video, video, from, unmasking);
         let end = put_next(out, middle, Stream::Audio, audio, from, unmasking);
         at = end;
-        from += write_blocks::PAYLOAD;
     }
     at
 }
@@ -337,18 +333,20 @@ fn put_film(out: &mut [u8], name: &[u8], video: &[u8], audio: &[u8], packing: Pa
 
 // Writes a film into an output, and answers its size. Bytes past it stay; a refusal leaves the output as it was.
 // Where there is no audio, `audio` is not looked at.
-pub fn write(name: &[u8], video: &[u8], audio: &[u8], packing: Packing, out: &mut [u8]) -> Written
+pub fn write(
+    name: &[u8],
+    video: &[u8],
+    audio: &[u8],
+    packing: Packing,
+    out: &mut [u8],
+) -> Result<usize, Refusal>
     ensures { Writing name.now video.now audio.now packing out.old result out.new }
 {
     let planned = write_plan::plan(name, video, audio, packing);
-    match lent::written_in(out.len(), planned) {
-        Written::Size(size) => {
-            let audio = write_plan::audio_in(packing, audio);
-            put_film(out, name, video, audio, packing);
-            Written::Size(size)
-        }
-        Written::Refused(refusal) => Written::Refused(refusal),
-    }
+    let size = lent::written_in(out.len(), planned)?;
+    let audio = write_plan::audio_in(packing, audio);
+    put_film(out, name, video, audio, packing);
+    Ok(size)
 }
 
 // ---- the pieces of a film that hold no payload, each at the start of an output of its own
@@ -360,42 +358,30 @@ pub fn write_header(
     audio: usize,
     packing: Packing,
     out: &mut [u8],
-) -> Written
+) -> Result<usize, Refusal>
     ensures { HeaderWriting name.now video audio packing out.old result out.new }
 {
     let planned = write_plan::plan_header(name.len(), video, audio, packing);
-    match lent::written_in(out.len(), planned) {
-        Written::Size(size) => {
-            put_header(out, name, packing);
-            Written::Size(size)
-        }
-        Written::Refused(refusal) => Written::Refused(refusal),
-    }
+    let size = lent::written_in(out.len(), planned)?;
+    put_header(out, name, packing);
+    Ok(size)
 }
 
 // Writes the head of a chunk whose payload has `len` bytes, and answers its size.
-pub fn write_head(stream: Stream, len: u32, out: &mut [u8]) -> Written
+pub fn write_head(stream: Stream, len: u32, out: &mut [u8]) -> Result<usize, Refusal>
     ensures { HeadWriting stream len out.old result out.new }
 {
-    match lent::written_in(out.len(), Written::Size(HEAD)) {
-        Written::Size(size) => {
-            put_head(out, 0, letters_of(stream), len as usize);
-            Written::Size(size)
-        }
-        Written::Refused(refusal) => Written::Refused(refusal),
-    }
+    let size = lent::written_in(out.len(), Ok(HEAD))?;
+    put_head(out, 0, letters_of(stream), len as usize);
+    Ok(size)
 }
 
 // Writes the ends of the streams, with audio or without, and answers their size.
-pub fn write_ends(audio: bool, out: &mut [u8]) -> Written
+pub fn write_ends(audio: bool, out: &mut [u8]) -> Result<usize, Refusal>
     ensures { EndsWriting audio out.old result out.new }
 {
-    let planned = Written::Size(write_plan::ends_size(audio));
-    match lent::written_in(out.len(), planned) {
-        Written::Size(size) => {
-            put_ends(out, 0, audio);
-            Written::Size(size)
-        }
-        Written::Refused(refusal) => Written::Refused(refusal),
-    }
+    let planned = Ok(write_plan::ends_size(audio));
+    let size = lent::written_in(out.len(), planned)?;
+    put_ends(out, 0, audio);
+    Ok(size)
 }

@@ -1,7 +1,5 @@
 -- Rules W3 and W4: what the blocks of a header hold.
-use Rattle.std.specs.Prelude.{ℕ, ◌+◌, ◌-◌, List, [], ◌∷◌, ◌++◌, length}
-use Rattle.codec.specs.declared.Codec.{Codec}
-use Rattle.codec.specs.declared.Codec.TheVariants.{Value, Absent}
+use Rattle.std.specs.Prelude.{ℕ, ◌+◌, ◌-◌, List, [], ◌∷◌, ◌++◌, length, Option, Some, None}
 use Rattle.signature.specs.Signatures.{filename}
 use Rattle.word.specs.Bytes.{bytes16, bytes32, zeros}
 
@@ -33,6 +31,6 @@ unfoldable pub name_table : List ℕ → List ℕ
 name_table name = table_with 0x5B filename (bytes32 0 ++ bytes32 (length name)) name
 
 -- a codec is a u32 cell, type 4, stored in the row; "absent codec as no column"
-unfoldable pub codec_table : List ℕ → Codec → List ℕ
-codec_table column (Value n) = table_with 0x54 column (bytes32 n) []
-codec_table column Absent = empty_table
+unfoldable pub codec_table : List ℕ → Option ℕ → List ℕ
+codec_table column (Some n) = table_with 0x54 column (bytes32 n) []
+codec_table column None = empty_table

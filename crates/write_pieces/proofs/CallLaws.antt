@@ -1,8 +1,10 @@
 -- What a writer learns of its calls: each that goes well is a piece, and what it puts is the piece's bytes. Assumes nothing.
-use Prim.Native.Nat.{ℕ, zero, suc, ◌+◌, ◌≤◌}
+use Rattle.std.specs.Prelude.{Option, Some, None, Result, Ok}
+use Rattle.refusal.specs.declared.Refusal.{Refusal}
+use Prim.Native.Nat.{ℕ, ◌+◌, ◌≤◌}
 use mathlib.Core.Path.{◌≡◌, refl, sym, ap, ap₂, ◌∙◌, subst}
 use mathlib.Core.List.{List, [], ◌∷◌, ◌++◌, map}
-use mathlib.Core.Bool.{Bool, true, false, cond, ◌||◌}
+use mathlib.Core.Bool.{Bool, true, false, cond}
 use native.Mathlib.Omega.{arith}
 use lib.ListN.{length, take, drop}
 use lib.Seq.{sets, sets-eq, take_at}
@@ -10,12 +12,10 @@ use lib.Dec.{ltb, eqb}
 use borrow.Author.Tests.{ltb-false}
 use Rattle.refusal.specs.declared.Cause.TheVariants.{MarkedPayload}
 use Rattle.signature.specs.Signatures.{contents_end, stands_at}
-use Rattle.word.specs.Bytes.{zeros, padding}
+use Rattle.word.specs.Bytes.{zeros}
 use Rattle.unmasking.specs.declared.Mask.{Mask}
-use Rattle.unmasking.specs.Unmasking.{mask_by, mask_number}
+use Rattle.unmasking.specs.Unmasking.{mask_by}
 use Rattle.unmasking.proofs.Promises.{MaskOfItsNumber}
-use Rattle.lent.specs.declared.Written.{Written}
-use Rattle.lent.specs.declared.Written.TheVariants.{Size, Refused}
 use Rattle.lent.specs.Written.{written_in, left_by, size_reply}
 use Rattle.write_blocks.specs.Blocks.{head_of}
 use Rattle.write_plan.specs.declared.Packing.{Packing}
@@ -26,11 +26,9 @@ use Rattle.write_plan.specs.Sizes.{size_in}
 use Rattle.write_plan.specs.Planning.{any_marked, refused_by}
 use Rattle.write_plan.proofs.LengthLaws.{head_length}
 use Rattle.write_pieces.specs.declared.Piece.{Piece}
-use Rattle.write_pieces.specs.declared.Turn.{Turn}
-use Rattle.write_pieces.specs.declared.Turn.TheVariants.{Over, Next}
 use Rattle.write_pieces.specs.declared.TurnReply.{TurnReply}
 use Rattle.write_pieces.specs.Turns.{turn_in}
-use Rattle.write_pieces.specs.Storing.{mask_in, stored_by, asked_of, Storing}
+use Rattle.write_pieces.specs.Storing.{mask_in, stored_by, Storing}
 use Rattle.write_pieces.specs.TurnReplies.{kind_of, piece_reply, replied_on, head_in}
 use Rattle.write_pieces.specs.Writers.{Taken, stream_in, payload_of, piece_bytes, bytes_by, Call, payload_by, Asked, Went, WentOn, put_by}
 
@@ -39,14 +37,14 @@ pub first_bytes : (bytes out out' : List ℕ) (n : ℕ) → length bytes ≡ n �
 first_bytes bytes out out' n e h f = rw (f, sets-eq bytes out 0 (omega arith)) (take_at bytes (drop (0 + length bytes) out) n e)
 
 -- an output that has room for a head, where it is not refused
-head_room : (t : Bool) (room : ℕ) → ltb room 0x20 ≡ t → (size_reply (written_in room (Size 0x20))).number ≡ 0 → t ≡ false
+head_room : (t : Bool) (room : ℕ) → ltb room 0x20 ≡ t → (size_reply (written_in room (Ok 0x20))).number ≡ 0 → t ≡ false
 head_room true room e z = let y : ◌≡◌ {A = ℕ} 16 0 = rw e at z in absurd (omega arith)
 head_room false room e z = refl
 
 -- a payload that was stored
 module _ (number : ℕ) (mask : Mask) (payload stored : List ℕ) (n : ℕ) where
-  stored_by_lem : (t : Bool) → stands_at contents_end payload 0 ≡ t → Storing number mask payload (Size n) stored → (t ≡ false) × (stored ≡ stored_by number mask payload)
-  stored_by_lem true e s = let y : Size n ≡ refused_by MarkedPayload = s.0 ∙ rw e in let z : ◌≡◌ {A = ℕ} 0 1 = cc in absurd (omega arith)
+  stored_by_lem : (t : Bool) → stands_at contents_end payload 0 ≡ t → Storing number mask payload (Ok n) stored → (t ≡ false) × (stored ≡ stored_by number mask payload)
+  stored_by_lem true e s = let y : Ok n ≡ refused_by MarkedPayload = s.0 ∙ rw e in let z : ◌≡◌ {A = ℕ} 0 1 = cc in absurd (omega arith)
   stored_by_lem false e s = (refl, s.1 ∙ rw e)
 
 -- the stream that a kind says
@@ -58,45 +56,45 @@ module _ (number : ℕ) (video audio : List ℕ) (packing : Packing) where
   abbrev there : List ℕ
   there = audio_in packing audio
 
-  abbrev answer_at : ℕ → Turn
+  abbrev answer_at : ℕ → Option Piece
   answer_at turn = turn_in (length video) (size_in packing (length audio)) turn
 
   -- what is learnt of a call
   record Answered (turn : ℕ) (call : Call) : Type 0 where
     pub piece : Piece
-    pub is : answer_at turn ≡ Next piece
+    pub is : answer_at turn ≡ Some piece
     pub next : call.reply.next ≡ piece.next
     pub put : put_by call ≡ piece_bytes number packing video there piece
     pub unmarked : stands_at contents_end (payload_of video there piece) 0 ≡ false
 
   module _ (turn : ℕ) (call : Call) (w : Went number video audio packing turn call) where
-    no_over : answer_at turn ≡ Over → Answered turn call
+    no_over : answer_at turn ≡ None → Answered turn call
     no_over e =
-        let r : call.reply ≡ replied_on packing (length call.out) Over = w.0.0 ∙ ap (replied_on packing (length call.out)) e in
+        let r : call.reply ≡ replied_on packing (length call.out) None = w.0.0 ∙ ap (replied_on packing (length call.out)) e in
         let y : ◌≡◌ {A = ℕ} 0 1 = sym (ap (λ (q : TurnReply). q.found) r) ∙ w.1 in
         absurd (omega arith)
 
-    module _ (piece : Piece) (e : answer_at turn ≡ Next piece) where
+    module _ (piece : Piece) (e : answer_at turn ≡ Some piece) where
       abbrev head : List ℕ
       head = head_of (letters_of piece.stream) piece.len
 
       abbrev mask : Mask
       mask = mask_in packing.key packing.audio_codec piece.stream
 
-      reply-is : call.reply ≡ piece_reply packing (written_in (length call.out) (Size 0x20)) piece
+      reply-is : call.reply ≡ piece_reply packing (written_in (length call.out) (Ok 0x20)) piece
       reply-is = w.0.0 ∙ ap (replied_on packing (length call.out)) e
 
       room : ltb (length call.out) 0x20 ≡ false
       room = head_room (ltb (length call.out) 0x20) (length call.out) refl (sym (ap (λ (q : TurnReply). q.head.number) reply-is) ∙ w.2)
 
-      written : written_in (length call.out) (Size 0x20) ≡ Size 0x20
+      written : written_in (length call.out) (Ok 0x20) ≡ Ok 0x20
       written = rw room
 
       size_is : call.reply.head.size ≡ 0x20
-      size_is = ap (λ (q : TurnReply). q.head.size) reply-is ∙ ap (λ (a : Written). (size_reply a).size) written
+      size_is = ap (λ (q : TurnReply). q.head.size) reply-is ∙ ap (λ (a : Result ℕ Refusal). (size_reply a).size) written
 
       head-put : call.out' ≡ sets call.out 0 head
-      head-put = w.0.1 ∙ ap (λ (t : Turn). head_in t call.out) e ∙ ap (λ (a : Written). left_by a call.out head) written
+      head-put = w.0.1 ∙ ap (λ (t : Option Piece). head_in t call.out) e ∙ ap (λ (a : Result ℕ Refusal). left_by a call.out head) written
 
       head-there : take call.reply.head.size call.out' ≡ head
       head-there =
@@ -125,9 +123,9 @@ module _ (number : ℕ) (video audio : List ℕ) (packing : Packing) where
             unmarked = sym (ap (λ (l : List ℕ). stands_at contents_end l 0) payload_is) ∙ stored-so.0;
           }
 
-    by_answer : (answer : Turn) → answer_at turn ≡ answer → Answered turn call
-    by_answer Over e = no_over e
-    by_answer (Next piece) e = a_piece piece e
+    by_answer : (answer : Option Piece) → answer_at turn ≡ answer → Answered turn call
+    by_answer None e = no_over e
+    by_answer (Some piece) e = a_piece piece e
 
   -- what is learnt of all calls
   pub record AllAnswered (turn : ℕ) (calls : List Call) : Type 0 where
@@ -137,9 +135,9 @@ module _ (number : ℕ) (video audio : List ℕ) (packing : Packing) where
     pub unmarked : any_marked (map (payload_of video (audio_in packing audio)) pieces) ≡ false
 
   module _ (turn : ℕ) (last : Call) (w : Asked video audio packing turn last) (z : last.reply.found ≡ 0) where
-    over_by : (answer : Turn) → answer_at turn ≡ answer → answer_at turn ≡ Over
-    over_by Over e = e
-    over_by (Next piece) e =
+    over_by : (answer : Option Piece) → answer_at turn ≡ answer → answer_at turn ≡ None
+    over_by None e = e
+    over_by (Some piece) e =
         let y : ◌≡◌ {A = ℕ} 1 0 = sym (ap (λ (q : TurnReply). q.found) (w.0 ∙ ap (replied_on packing (length last.out)) e)) ∙ z in absurd (omega arith)
 
   pub all_answered : (last : Call) (turn : ℕ) (calls : List Call) → WentOn number video audio packing last turn calls → AllAnswered turn calls

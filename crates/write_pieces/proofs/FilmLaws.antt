@@ -1,7 +1,8 @@
 -- The pieces of a film, one after the other, are its chunks; and a payload is marked where a piece's is. Assumes nothing.
-use Prim.Native.Nat.{ℕ, ◌+◌, ◌-◌, ◌*◌, ◌≤◌, ◌<◌, min}
+use Rattle.std.specs.Prelude.{Option, Some, None}
+use Prim.Native.Nat.{ℕ, ◌+◌, ◌*◌, ◌≤◌, ◌<◌}
 use mathlib.Core.Path.{◌≡◌, refl, sym, ap, ap₂, ◌∙◌}
-use mathlib.Core.List.{List, [], ◌∷◌, ◌++◌, map, append_assoc}
+use mathlib.Core.List.{List, [], ◌++◌, map}
 use mathlib.Core.Bool.{Bool, true, false, cond, ◌||◌, ◌&&◌}
 use mathlib.Core.Logic.{⊎_elim}
 use native.Mathlib.Omega.{arith}
@@ -11,19 +12,15 @@ use Rattle.laws.proofs.Side.{side}
 use Rattle.key.specs.KeyTable.{keys_of}
 use Rattle.mask.specs.Audio.{masked_audio}
 use Rattle.signature.specs.Signatures.{contents_end, stands_at}
-use Rattle.word.specs.Bytes.{zeros, padding}
-use Rattle.codec.specs.declared.Codec.{Codec}
-use Rattle.unmasking.specs.declared.Key.{Key}
-use Rattle.unmasking.specs.declared.Key.TheVariants.{Absent, Given}
 use Rattle.unmasking.specs.declared.Mask.TheVariants.{Clear, AudioMask}
 use Rattle.unmasking.specs.declared.Unmasking.{Unmasking}
 use Rattle.unmasking.specs.Unmasking.{is_adx, unmasking_of}
-use Rattle.write_blocks.specs.Blocks.{head_of, block_of}
+use Rattle.write_blocks.specs.Blocks.{block_of}
 use Rattle.write_plan.specs.declared.Packing.{Packing}
 use Rattle.write_plan.specs.declared.Stream.{Stream}
 use Rattle.write_plan.specs.declared.Stream.TheVariants.{Video, Audio}
 use Rattle.write_plan.specs.Payloads.{payloads_of, stored_as}
-use Rattle.write_plan.specs.Films.{letters_of, bytes_of, next_chunk, chunk_blocks}
+use Rattle.write_plan.specs.Films.{bytes_of, next_chunk, chunk_blocks}
 use Rattle.write_plan.specs.Planning.{any_marked}
 use Rattle.write_plan.proofs.PayloadLaws.{payloads_none, stored_length}
 use Rattle.write_plan.proofs.PlanLaws.{marked_here, unmarked_more}
@@ -40,12 +37,12 @@ adx_stored : (number : ℕ) (payload : List ℕ) (adx : Bool) → cond adx (mask
 adx_stored number payload true = refl
 adx_stored number payload false = refl
 
-pub stored_alike : (key : Key) (codec : Codec) (number : ℕ) → Under number key → (stream : Stream) (payload : List ℕ)
+pub stored_alike : (key : Option ℕ) (codec : Option ℕ) (number : ℕ) → Under number key → (stream : Stream) (payload : List ℕ)
     → stored_as (unmasking_of key codec) stream payload ≡ stored_by number (mask_in key codec stream) payload
-stored_alike Absent codec number under Video payload = refl
-stored_alike Absent codec number under Audio payload = refl
-stored_alike (Given given) codec number under Video payload = rw under
-stored_alike (Given given) codec number under Audio payload = rw under (adx_stored given payload (is_adx codec))
+stored_alike None codec number under Video payload = refl
+stored_alike None codec number under Audio payload = refl
+stored_alike (Some given) codec number under Video payload = rw under
+stored_alike (Some given) codec number under Audio payload = rw under (adx_stored given payload (is_adx codec))
 
 -- ---- payload k of a stream
 

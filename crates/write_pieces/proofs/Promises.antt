@@ -1,29 +1,27 @@
 -- The promises of specs/Promises.antt, each under its name. Assumes nothing.
+use Rattle.std.specs.Prelude.{Ok}
 use Prim.Native.Nat.{ℕ, ◌+◌, ◌≤◌}
 use mathlib.Core.Path.{◌≡◌, refl, sym, ap, ap₂, ◌∙◌}
 use mathlib.Core.List.{List, [], ◌++◌}
 use mathlib.Core.Bool.{Bool, true, false, cond}
 use native.Mathlib.Omega.{arith}
-use lib.ListN.{length, take}
-use Rattle.unmasking.specs.Unmasking.{unmasking_of}
-use Rattle.lent.specs.declared.Written.{Written}
-use Rattle.lent.specs.declared.Written.TheVariants.{Size}
+use lib.ListN.{length}
 use Rattle.lent.specs.Written.{written_in}
 use Rattle.lent.proofs.RoomLaws.{planned_so}
 use Rattle.write_blocks.specs.Blocks.{head_of}
 use Rattle.write_plan.specs.declared.Packing.{Packing}
-use Rattle.write_plan.specs.Films.{letters_of, bytes_of, header_blocks, chunk_blocks, end_blocks, audio_in, film_bytes}
+use Rattle.write_plan.specs.Films.{letters_of, bytes_of, header_blocks, audio_in, film_bytes}
 use Rattle.write_plan.specs.Sizes.{header_size, size_in}
 use Rattle.write_plan.specs.Planning.{sized_of, headed_by, marked_by, planned_of}
 use Rattle.write_plan.proofs.LengthLaws.{head_length, header_length}
 use Rattle.write_plan.proofs.PlanLaws.{headed_so, planned_by, accepted}
 use Rattle.write.specs.Writing.{ends_of}
 use Rattle.write_pieces.specs.declared.Piece.{Piece}
-use Rattle.write_pieces.specs.Writers.{Taken, payload_of, piece_bytes, bytes_by}
+use Rattle.write_pieces.specs.Writers.{Taken}
 use Rattle.write_pieces.specs.Promises as promised
 use Rattle.write_pieces.proofs.WalkLaws.{all_taken}
 use Rattle.write_pieces.proofs.FilmLaws.{chunks_made, marks_made}
-use Rattle.write_pieces.proofs.CallLaws.{AllAnswered, all_answered, first_bytes}
+use Rattle.write_pieces.proofs.CallLaws.{all_answered, first_bytes}
 
 -- the length of the audio that there is
 audio_there : (there : Bool) (audio : List ℕ) → cond there (length audio) 0 ≡ length (cond there audio [])
@@ -49,8 +47,8 @@ pub TurnsEnd : promised.TurnsEnd
 TurnsEnd video audio = all_taken video audio (video + audio + 2) 0 (omega arith)
 
 -- so many were planned
-so_many : (out : List ℕ) (m n : ℕ) → Size n ≡ written_in (length out) (Size m) → (m ≡ n) × (n ≤ length out)
-so_many out m n e = let s = planned_so (length out) (Size m) n (sym e) in let k : m ≡ n = cc s.0 in (k, s.1)
+so_many : (out : List ℕ) (m n : ℕ) → Ok n ≡ written_in (length out) (Ok m) → (m ≡ n) × (n ≤ length out)
+so_many out m n e = let s = planned_so (length out) (Ok m) n (sym e) in let k : m ≡ n = cc s.0 in (k, s.1)
 
 pub OutputsHoldPieces : promised.OutputsHoldPieces
 OutputsHoldPieces = (
@@ -68,8 +66,8 @@ OutputsHoldPieces = (
 )
 
 -- a film's size is its length, where it is planned
-its_length : (name video audio : List ℕ) (packing : Packing) (n : ℕ) → planned_of name video audio packing ≡ Size n → planned_of name video audio packing ≡ Size (length (film_bytes name video audio packing))
-its_length name video audio packing n e = e ∙ ap Size (accepted name video audio packing n e).sized
+its_length : (name video audio : List ℕ) (packing : Packing) (n : ℕ) → planned_of name video audio packing ≡ Ok n → planned_of name video audio packing ≡ Ok (length (film_bytes name video audio packing))
+its_length name video audio packing n e = e ∙ ap Ok (accepted name video audio packing n e).sized
 
 pub WhoeverWritesThePieces : promised.WhoeverWritesThePieces
 WhoeverWritesThePieces name video audio packing number out out' n calls last end end' m under header went ends =

@@ -1,6 +1,5 @@
 -- What is promised of a film that is written piece by piece. Each is proved under the same name in proofs/Promises.antt.
-use Rattle.std.specs.Prelude.{ℕ, ◌+◌, ◌≡◌, List, ◌++◌, map, Bool, length, take}
-use Rattle.lent.specs.declared.Written.TheVariants.{Size}
+use Rattle.std.specs.Prelude.{ℕ, ◌+◌, ◌≡◌, List, ◌++◌, map, Bool, length, take, Ok}
 use Rattle.write_blocks.specs.Blocks.{head_of}
 use Rattle.write_plan.specs.declared.Packing.{Packing}
 use Rattle.write_plan.specs.declared.Stream.{Stream}
@@ -32,11 +31,11 @@ abbrev pub WhoeverWritesThePieces : Type 0
 WhoeverWritesThePieces =
     (name video audio : List ℕ) (packing : Packing) (number : ℕ) (out out' : List ℕ) (n : ℕ) (calls : List Call) (last : Call) (end end' : List ℕ) (m : ℕ)
     → Under number packing.key
-    → HeaderWriting name (length video) (length audio) packing out (Size n) out'
+    → HeaderWriting name (length video) (length audio) packing out (Ok n) out'
     → WentOn number video audio packing last 0 calls
-    → EndsWriting packing.audio end (Size m) end'
+    → EndsWriting packing.audio end (Ok m) end'
     → (take n out' ++ (bytes_by put_by calls ++ take m end') ≡ film_bytes name video (audio_in packing audio) packing)
-    × (planned_of name video (audio_in packing audio) packing ≡ Size (length (film_bytes name video (audio_in packing audio) packing)))
+    × (planned_of name video (audio_in packing audio) packing ≡ Ok (length (film_bytes name video (audio_in packing audio) packing)))
 
 -- Whoever goes on from turn 0 with each next turn comes to the end of both streams.
 abbrev pub TurnsEnd : Type 0
@@ -45,7 +44,7 @@ TurnsEnd = (video audio : ℕ) → Taken video audio 0 (pieces_from video audio 
 -- The first bytes of an output, as many as were answered, are the piece that was written there.
 abbrev pub OutputsHoldPieces : Type 0
 OutputsHoldPieces =
-    ((name : List ℕ) (video audio : ℕ) (packing : Packing) (out out' : List ℕ) (n : ℕ) → HeaderWriting name video audio packing out (Size n) out'
+    ((name : List ℕ) (video audio : ℕ) (packing : Packing) (out out' : List ℕ) (n : ℕ) → HeaderWriting name video audio packing out (Ok n) out'
     → take n out' ≡ bytes_of (header_blocks name packing))
-    × ((stream : Stream) (len : ℕ) (out out' : List ℕ) (n : ℕ) → HeadWriting stream len out (Size n) out' → take n out' ≡ head_of (letters_of stream) len)
-    × ((audio : Bool) (out out' : List ℕ) (n : ℕ) → EndsWriting audio out (Size n) out' → take n out' ≡ ends_of audio)
+    × ((stream : Stream) (len : ℕ) (out out' : List ℕ) (n : ℕ) → HeadWriting stream len out (Ok n) out' → take n out' ≡ head_of (letters_of stream) len)
+    × ((audio : Bool) (out out' : List ℕ) (n : ℕ) → EndsWriting audio out (Ok n) out' → take n out' ≡ ends_of audio)

@@ -1,10 +1,7 @@
 -- Who writes a film piece by piece: it asks turn after turn, and puts for each what it is answered. Ours, beyond the rules.
-use Rattle.std.specs.Prelude.{ℕ, zero, suc, ◌≡◌, List, [], ◌∷◌, ◌++◌, cond, length, take, drop, eqb}
+use Rattle.std.specs.Prelude.{ℕ, zero, suc, ◌≡◌, List, [], ◌∷◌, ◌++◌, cond, length, take, drop, eqb, Option, Some, None, Ok}
 use Rattle.word.specs.Bytes.{zeros, padding}
 use Rattle.unmasking.specs.Unmasking.{mask_by}
-use Rattle.unmasking.specs.declared.Key.{Key}
-use Rattle.unmasking.specs.declared.Key.TheVariants.{Absent, Given}
-use Rattle.lent.specs.declared.Written.TheVariants.{Size}
 use Rattle.write_blocks.specs.Blocks.{head_of}
 use Rattle.write_plan.specs.declared.Packing.{Packing}
 use Rattle.write_plan.specs.declared.Stream.{Stream}
@@ -12,16 +9,14 @@ use Rattle.write_plan.specs.declared.Stream.TheVariants.{Video, Audio}
 use Rattle.write_plan.specs.Films.{letters_of, audio_in}
 use Rattle.write_pieces.specs.declared.Piece.{Piece}
 use Rattle.write_pieces.specs.declared.TurnReply.{TurnReply}
-use Rattle.write_pieces.specs.declared.Turn.{Turn}
-use Rattle.write_pieces.specs.declared.Turn.TheVariants.{Over, Next}
 use Rattle.write_pieces.specs.Turns.{turn_in}
 use Rattle.write_pieces.specs.Storing.{mask_in, stored_by, Storing}
 use Rattle.write_pieces.specs.TurnReplies.{TurnWriting}
 
 -- what it is answered, from a turn on: these pieces, and then that both streams are over
 abbrev pub Taken : ℕ → ℕ → ℕ → List Piece → Type 0
-Taken video audio turn [] = turn_in video audio turn ≡ Over
-Taken video audio turn (piece ∷ pieces) = (turn_in video audio turn ≡ Next piece) × Taken video audio piece.next pieces
+Taken video audio turn [] = turn_in video audio turn ≡ None
+Taken video audio turn (piece ∷ pieces) = (turn_in video audio turn ≡ Some piece) × Taken video audio piece.next pieces
 
 -- the bytes that it reads for a piece
 abbrev pub stream_in : List ℕ → List ℕ → Stream → List ℕ
@@ -32,9 +27,9 @@ abbrev pub payload_of : List ℕ → List ℕ → Piece → List ℕ
 payload_of video audio piece = take piece.len (drop piece.from (stream_in video audio piece.stream))
 
 -- the number that it masks with: the key, and any number where there is none
-abbrev pub Under : ℕ → Key → Type 0
-Under number Absent = Unit
-Under number (Given given) = number ≡ given
+abbrev pub Under : ℕ → Option ℕ → Type 0
+Under number None = Unit
+Under number (Some given) = number ≡ given
 
 -- what it puts for a piece: the head, the payload as it is stored, the zeros
 abbrev pub piece_bytes : ℕ → Packing → List ℕ → List ℕ → Piece → List ℕ
@@ -48,9 +43,9 @@ bytes_by put [] = []
 bytes_by put (one ∷ others) = put one ++ bytes_by put others
 
 -- the pieces from a turn on, n of them at most
-abbrev pub after_turn : (ℕ → List Piece) → Turn → List Piece
-after_turn go Over = []
-after_turn go (Next piece) = piece ∷ go piece.next
+abbrev pub after_turn : (ℕ → List Piece) → Option Piece → List Piece
+after_turn go None = []
+after_turn go (Some piece) = piece ∷ go piece.next
 
 unfoldable pub pieces_from : ℕ → ℕ → ℕ → ℕ → List Piece
 pieces_from video audio zero turn = []
@@ -79,7 +74,7 @@ Went number video audio packing turn call =
     Asked video audio packing turn call
     × (call.reply.found ≡ 1)
     × (call.reply.head.number ≡ 0)
-    × Storing number (mask_by call.reply.mask) (payload_by video (audio_in packing audio) call.reply) (Size call.size) call.stored
+    × Storing number (mask_by call.reply.mask) (payload_by video (audio_in packing audio) call.reply) (Ok call.size) call.stored
 
 -- turn after turn from one on, up to a last that has none
 abbrev pub WentOn : ℕ → List ℕ → List ℕ → Packing → Call → ℕ → List Call → Type 0

@@ -3,15 +3,14 @@
 #![tactic(auto)]
 
 ghost use Rattle.std.specs.Prelude.{◌≡◌, ◌<◌, ◌^◌};
-ghost use Rattle.write_pieces.specs.Turns.{payload_len, turn_after, piece_of, first_of, turn_in};
+ghost use Rattle.write_pieces.specs.Turns.{payload_len, turn_after, piece_of, turn_in};
 ghost use Rattle.write_pieces.specs.Storing.{mask_of, mask_in, stored_by, Storing};
 ghost use Rattle.write_pieces.specs.TurnReplies.{kind_of, over_reply, piece_reply, TurnWriting};
 
 use chunk::Kind;
-use codec::Codec;
-use lent::{SizeReply, Written};
+use lent::SizeReply;
 use refusal::{Cause, Refusal};
-use unmasking::{Key, Mask};
+use unmasking::Mask;
 use write_blocks::PAYLOAD;
 use write_plan::{Packing, Stream};
 
@@ -25,13 +24,6 @@ pub struct Piece {
     pub from: usize,
     pub len: u32,
     pub next: usize,
-}
-
-// What is written at a turn, or that both streams are over.
-#[derive(Clone, Copy)]
-pub enum Turn {
-    Over,
-    Next(Piece),
 }
 
 // What is written at a turn, as C reads it: the answer on the head's output; the payload, the zeros behind it, and the mask that it has.
@@ -77,14 +69,14 @@ fn turn_after(stream: Stream, round: usize) -> usize
 }
 
 // The payload of a round in a stream of `size` bytes.
-fn piece_of(stream: Stream, size: usize, round: usize) -> Turn
+fn piece_of(stream: Stream, size: usize, round: usize) -> Option<Piece>
     ensures { result ≡ piece_of stream size round }
 {
     let len = payload_len(size, round);
     if len == 0 {
-        return Turn::Over;
+        return None;
     }
-    Turn::Next(Piece {
+    Some(Piece {
         stream,
         from: round * PAYLOAD,
         len,
@@ -92,32 +84,22 @@ fn piece_of(stream: Stream, size: usize, round: usize) -> Turn
     })
 }
 
-// The first of two turns that there is.
-fn first_of(some: Turn, other: Turn) -> Turn
-    ensures { result ≡ first_of some other }
-{
-    match some {
-        Turn::Next(piece) => Turn::Next(piece),
-        Turn::Over => other,
-    }
-}
-
 // What is written at a turn, in a film whose streams have these lengths. Turn 0 is the first.
-pub fn turn_in(video: usize, audio: usize, turn: usize) -> Turn
+pub fn turn_in(video: usize, audio: usize, turn: usize) -> Option<Piece>
     ensures { result ≡ turn_in video audio turn }
 {
     let round = turn / 2;
     let sound = piece_of(Stream::Audio, audio, round);
     if turn % 2 == 0 {
-        return first_of(piece_of(Stream::Video, video, round), sound);
+        return piece_of(Stream::Video, video, round).or(sound);
     }
-    first_of(sound, piece_of(Stream::Video, video, round + 1))
+    sound.or(piece_of(Stream::Video, video, round + 1))
 }
 
 // ---- a payload as it is stored
 
 // The mask that a stream's payloads have under a key.
-fn mask_of(stream: Stream, codec: Codec) -> Mask
+fn mask_of(stream: Stream, codec: Option<u32>) -> Mask
     ensures { result ≡ mask_of stream codec }
 {
     match stream {
@@ -133,8 +115,8 @@ fn mask_in(packing: Packing, stream: Stream) -> Mask
     let key = packing.key;
     let codec = packing.audio_codec;
     match key {
-        Key::Absent => Mask::Clear,
-        Key::Given(_) => mask_of(stream, codec),
+        None => Mask::Clear,
+        Some(_) => mask_of(stream, codec),
     }
 }
 
@@ -150,23 +132,20 @@ fn store_by(payload: &mut [u8], number: u64, mask: Mask)
 }
 
 // Masks a clear payload as it is stored, and answers its length. One that begins with the end marker is refused, and left.
-pub fn store(payload: &mut [u8], number: u64, mask: Mask) -> Written
+pub fn store(payload: &mut [u8], number: u64, mask: Mask) -> Result<usize, Refusal>
     ensures { Storing number mask payload.old result payload.new }
 {
     if signature::stands_at(b"#CONTENTS END", payload, 0) {
-        return Written::Refused(Refusal {
-            cause: Cause::MarkedPayload,
-            place: 0,
-        });
+        return refusal::refused(Cause::MarkedPayload, 0);
     }
     let len = payload.len();
     store_by(payload, number, mask);
-    Written::Size(len)
+    Ok(len)
 }
 
 // ---- the head of a turn's chunk
 
-// The number of a stream's chunks, as a listing gives it.
+// The number of a stream's chunks, as a listing for C gives it.
 fn kind_of(stream: Stream) -> u8
     ensures { result ≡ kind_of stream }
 {
@@ -181,7 +160,7 @@ fn over() -> TurnReply
     ensures { result ≡ over_reply }
 {
     TurnReply {
-        head: lent::size_reply(Written::Size(0)),
+        head: lent::size_reply(Ok(0)),
         next: 0,
         from: 0,
         length: 0,
@@ -193,7 +172,7 @@ fn over() -> TurnReply
 }
 
 // The reply on a payload that is written next, where this was answered on its head.
-fn piece_reply(piece: Piece, packing: Packing, written: Written) -> TurnReply
+fn piece_reply(piece: Piece, packing: Packing, written: Result<usize, Refusal>) -> TurnReply
     ensures { result ≡ piece_reply packing written piece }
 {
     let stream = piece.stream;
@@ -222,8 +201,8 @@ pub fn write_turn(
 {
     let audio = write_plan::audio_size(packing, audio);
     match turn_in(video, audio, turn) {
-        Turn::Over => over(),
-        Turn::Next(piece) => {
+        None => over(),
+        Some(piece) => {
             let stream = piece.stream;
             let written = write::write_head(stream, piece.len, head);
             piece_reply(piece, packing, written)

@@ -1,11 +1,10 @@
 -- A film of an empty name, three bytes of video and no codec, byte by byte. Assumes nothing.
+use Rattle.std.specs.Prelude.{None}
 use Prim.Native.Nat.{ℕ}
 use mathlib.Core.Path.{◌≡◌, refl}
 use mathlib.Core.List.{List, [], ◌∷◌, ◌++◌}
 use mathlib.Core.Bool.{false}
 use lib.ListN.{length}
-use Rattle.codec.specs.declared.Codec.TheVariants.{Absent}
-use Rattle.unmasking.specs.declared.Key.TheVariants as key
 use Rattle.word.specs.Bytes.{zeros}
 use Rattle.write_blocks.specs.Blocks.{head_of, block_of}
 use Rattle.write_blocks.specs.Tables.{table_head, table_with, name_table, codec_table}
@@ -35,7 +34,7 @@ name_table₀ =
     ∷ 0x5B ∷ 0 ∷ 0 ∷ 0 ∷ 0 ∷ 0 ∷ 0 ∷ 0 ∷ 0 ∷ 0 ∷ 0 ∷ 0 ∷ 0 ∷ 0x66 ∷ 0x69 ∷ 0x6C ∷ 0x65 ∷ 0x6E ∷ 0x61 ∷ 0x6D ∷ 0x65 ∷ 0 ∷ []
 
 abbrev pub packing : Packing
-packing = record { audio = false; mpeg_codec = Absent; audio_codec = Absent; key = key.Absent }
+packing = record { audio = false; mpeg_codec = None; audio_codec = None; key = None }
 
 unfoldable pub film : List ℕ
 film =

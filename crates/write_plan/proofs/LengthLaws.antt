@@ -1,4 +1,5 @@
 -- How long blocks, chunks and films are. Assumes nothing.
+use Rattle.std.specs.Prelude.{Option, Some, None}
 use Prim.Native.Nat.{ℕ, zero, suc, ◌+◌, ◌-◌, ◌*◌, ◌/◌, ◌%◌, ◌≤◌, ◌<◌}
 use mathlib.Core.Path.{◌≡◌, refl, sym, ap, ap₂, ◌∙◌}
 use mathlib.Core.List.{List, [], ◌∷◌, ◌++◌, map, append-nil}
@@ -10,8 +11,6 @@ use lib.Seq.{length-take-le, take_all}
 use borrow.Author.Tests.{ne_eqb}
 use Rattle.laws.proofs.Side.{side}
 use Rattle.signature.specs.Signatures.{CRID, SFV, SFA, header_end, metadata_end, contents_end, mpeg_codec, audio_codec}
-use Rattle.codec.specs.declared.Codec.{Codec}
-use Rattle.codec.specs.declared.Codec.TheVariants.{Value, Absent}
 use Rattle.unmasking.specs.declared.Unmasking.{Unmasking}
 use Rattle.unmasking.specs.Unmasking.{unmasking_of}
 use Rattle.word.specs.Bytes.{zeros, padding}
@@ -56,10 +55,10 @@ unfolding name_table
 name_length_lem name = table_length 0x5B _ _ name ∙ omega arith
 
 -- both columns' names fit the same block
-codec_length : (column : List ℕ) → 0 < length column → length column < 0x17 → (letters : ℕ) (codec : Codec) → length (block_of letters (codec_table column codec)) ≡ codec_size codec
+codec_length : (column : List ℕ) → 0 < length column → length column < 0x17 → (letters : ℕ) (codec : Option ℕ) → length (block_of letters (codec_table column codec)) ≡ codec_size codec
 unfolding codec_table
-codec_length column low high letters (Value n) = block_length letters _ ∙ rw (table_length 0x54 column) (omega arith)
-codec_length column low high letters Absent = block_length letters _
+codec_length column low high letters (Some n) = block_length letters _ ∙ rw (table_length 0x54 column) (omega arith)
+codec_length column low high letters None = block_length letters _
 
 -- ---- a stream
 

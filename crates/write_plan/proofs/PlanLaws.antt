@@ -1,5 +1,9 @@
 -- A film's plan, test by test: a law for each answer of the functions that measure and plan. Assumes nothing.
+use Rattle.std.specs.Prelude.{Result, Ok, Err}
 use Prim.Native.Nat.{ℕ, ◌+◌, ◌-◌, ◌≤◌, ◌<◌}
+use Rattle.std.specs.Prelude.{◌++◌, min, max}
+use Rattle.std.proofs.Common.{append-nil, length-append}
+use Rattle.std.proofs.Math.Seq.{take-append_seam, drop-append_seam}
 use mathlib.Core.Path.{◌≡◌, refl, sym, ap, ◌∙◌}
 use mathlib.Core.List.{List, [], ◌∷◌}
 use mathlib.Core.Bool.{Bool, true, false, not, cond, ◌||◌, ◌&&◌}
@@ -12,8 +16,6 @@ use Rattle.refusal.specs.declared.Cause.{Cause}
 use Rattle.refusal.specs.declared.Refusal.{Refusal}
 use Rattle.refusal.specs.declared.Cause.TheVariants.{TooLong, MarkedPayload, CodecAlone}
 use Rattle.signature.specs.Signatures.{contents_end, same_bytes, stands_at}
-use Rattle.lent.specs.declared.Written.{Written}
-use Rattle.lent.specs.declared.Written.TheVariants as written
 use Rattle.write_plan.specs.declared.Packing.{Packing}
 use Rattle.write_plan.specs.Payloads.{payloads_of}
 use Rattle.write_plan.specs.Films.{film_bytes}
@@ -48,9 +50,23 @@ unfolding any_marked
 unmarked_more [] e = refl
 unmarked_more (byte ∷ stream) e = rw (payloads_more (byte ∷ stream) (omega arith), e)
 
-pub unmarked_last : (stream : List ℕ) → stands_at contents_end (take 0x10000 stream) 0 ≡ false → length stream ≤ 0x10000 → any_marked (payloads_of stream) ≡ false
+pub unmarked_none : (stream : List ℕ) → length stream ≡ 0 → any_marked (payloads_of stream) ≡ false
 unfolding any_marked
-unmarked_last stream e h = unmarked_more stream e ∙ rw (drop_of_length-le stream h, payloads_none)
+unmarked_none [] e = rw payloads_none
+unmarked_none (byte ∷ stream) e = absurd (omega arith)
+
+-- a piece of n bytes or all, with what is left behind it, is the next payload
+pub piece_is : (n : ℕ) (stream piece rest : List ℕ) → n ≡ 0x10000 → stream ≡ piece ++ rest → length piece ≡ min n (length stream)
+    → (take 0x10000 stream ≡ piece) × (drop 0x10000 stream ≡ rest)
+piece_is n stream piece [] e s h =
+    let same : stream ≡ piece = s ∙ append-nil piece in
+    let few : length piece ≤ 0x10000 = omega arith in
+    (rw same (take_all 0x10000 piece few), rw same (drop_of_length-le piece few))
+piece_is n stream piece (byte ∷ rest) e s h =
+    let whole : length piece ≡ 0x10000 = omega (arith, ap length s, length-append piece (byte ∷ rest)) in (
+      ap (take 0x10000) s ∙ ap (λ (k : ℕ). take k (piece ++ byte ∷ rest)) (sym whole) ∙ take-append_seam piece (byte ∷ rest),
+      ap (drop 0x10000) s ∙ ap (λ (k : ℕ). drop k (piece ++ byte ∷ rest)) (sym whole) ∙ drop-append_seam piece (byte ∷ rest),
+    )
 
 -- ---- the size
 
@@ -58,21 +74,15 @@ over_limit : (n : ℕ) → 0x40000000 < n → refused_by TooLong ≡ within_limi
 over_limit n h = rw (lt-ltb 0x40000000 n h)
 
 module _ (name video audio : ℕ) (packing : Packing) where
-  pub name_over : 0x40000000 < name → refused_by TooLong ≡ within_limit (film_size name video audio packing)
-  name_over h = over_limit (film_size name video audio packing) (omega (arith, sizes_hold name video audio packing))
-
-  pub video_over : 0x40000000 < video → refused_by TooLong ≡ within_limit (film_size name video audio packing)
-  video_over h = over_limit (film_size name video audio packing) (omega (arith, sizes_hold name video audio packing))
-
-  pub audio_over : 0x40000000 < audio → refused_by TooLong ≡ within_limit (film_size name video audio packing)
-  audio_over h = over_limit (film_size name video audio packing) (omega (arith, sizes_hold name video audio packing))
+  pub part_over : 0x40000000 < max (max name video) audio → refused_by TooLong ≡ within_limit (film_size name video audio packing)
+  part_over h = over_limit (film_size name video audio packing) (omega (arith, sizes_hold name video audio packing))
 
   module _ (n : ℕ) (e : n ≡ film_size name video audio packing) where
     pub film_over : 0x40000000 < n → refused_by TooLong ≡ within_limit (film_size name video audio packing)
     film_over h = over_limit (film_size name video audio packing) (omega arith)
 
-    pub film_within : n ≤ 0x40000000 → written.Size n ≡ within_limit (film_size name video audio packing)
-    film_within h = rw (le-ltb 0x40000000 (film_size name video audio packing) (omega arith)) (ap written.Size e)
+    pub film_within : n ≤ 0x40000000 → Ok n ≡ within_limit (film_size name video audio packing)
+    film_within h = rw (le-ltb 0x40000000 (film_size name video audio packing) (omega arith)) (ap Ok e)
 
   abbrev alone : Bool
   alone = not packing.audio && is_given packing.audio_codec
@@ -89,8 +99,8 @@ module _ (name video audio : ℕ) (packing : Packing) where
 
 -- 15 is asked last
 asked_last : (alone over marked : Bool) (n : ℕ)
-    → cond alone (refused_by CodecAlone) (cond over (refused_by TooLong) (cond marked (refused_by MarkedPayload) (written.Size n)))
-    ≡ marked_by marked (cond alone (refused_by CodecAlone) (cond over (refused_by TooLong) (written.Size n)))
+    → cond alone (refused_by CodecAlone) (cond over (refused_by TooLong) (cond marked (refused_by MarkedPayload) (Ok n)))
+    ≡ marked_by marked (cond alone (refused_by CodecAlone) (cond over (refused_by TooLong) (Ok n)))
 asked_last true over marked n = refl
 asked_last false true marked n = refl
 asked_last false false marked n = refl
@@ -105,36 +115,33 @@ planned_by name video audio packing =
     (asked_last (not packing.audio && is_given packing.audio_codec) (ltb 0x40000000 (film_size (length name) (length video) (length audio) packing))
     (any_marked (payloads_of video) || any_marked (payloads_of audio)) (film_size (length name) (length video) (length audio) packing))
 
-module _ (name video audio : List ℕ) (packing : Packing) (planned : Written) (e : planned ≡ sized_of (length name) (length video) (length audio) packing) where
+module _ (name video audio : List ℕ) (packing : Packing) (planned : Result ℕ Refusal) (e : planned ≡ sized_of (length name) (length video) (length audio) packing) where
   by_marks : (marked : Bool) → (any_marked (payloads_of video) || any_marked (payloads_of audio)) ≡ marked → marked_by marked planned ≡ planned_of name video audio packing
   by_marks marked m = sym (planned_by name video audio packing ∙ rw (m, e))
 
-  pub plan_refused : (refusal : Refusal) → planned ≡ written.Refused refusal → written.Refused refusal ≡ planned_of name video audio packing
+  pub plan_refused : (refusal : Refusal) → planned ≡ Err refusal → Err refusal ≡ planned_of name video audio packing
   plan_refused refusal f = rw (← by_marks _ refl, f)
 
-  module _ (n : ℕ) (f : planned ≡ written.Size n) where
-    pub plan_video : any_marked (payloads_of video) ≡ true → refused_by MarkedPayload ≡ planned_of name video audio packing
-    plan_video v = rw (← by_marks true (rw v), f)
+  module _ (n : ℕ) (f : planned ≡ Ok n) where
+    pub plan_marked : (any_marked (payloads_of video) || any_marked (payloads_of audio)) ≡ true → refused_by MarkedPayload ≡ planned_of name video audio packing
+    plan_marked m = rw (← by_marks true m, f)
 
-    pub plan_audio : any_marked (payloads_of video) ≡ false → any_marked (payloads_of audio) ≡ true → refused_by MarkedPayload ≡ planned_of name video audio packing
-    plan_audio v a = rw (← by_marks true (rw (v, a)), f)
-
-    pub plan_size : any_marked (payloads_of video) ≡ false → any_marked (payloads_of audio) ≡ false → written.Size n ≡ planned_of name video audio packing
+    pub plan_size : any_marked (payloads_of video) ≡ false → any_marked (payloads_of audio) ≡ false → Ok n ≡ planned_of name video audio packing
     plan_size v a = rw (← by_marks false (rw (v, a)), f)
 
 -- ---- a header that is planned
 
-tested : (t : Bool) (cause : Cause) (p : Written) (n : ℕ) → cond t (refused_by cause) p ≡ written.Size n → (t ≡ false) × (p ≡ written.Size n)
+tested : (t : Bool) (cause : Cause) (p : Result ℕ Refusal) (n : ℕ) → cond t (refused_by cause) p ≡ Ok n → (t ≡ false) × (p ≡ Ok n)
 tested true cause p n e = let z : ◌≡◌ {A = ℕ} 0 1 = cc in absurd (omega arith)
 tested false cause p n e = (refl, e)
 
 -- the size that is planned
-abbrev film_in : Written → ℕ
-film_in (written.Size n) = n
-film_in (written.Refused refusal) = 0
+abbrev film_in : Result ℕ Refusal → ℕ
+film_in (Ok n) = n
+film_in (Err refusal) = 0
 
 -- its film is within the limit, and so is its name
-pub sized_fits : (name video audio : ℕ) (packing : Packing) (n : ℕ) → sized_of name video audio packing ≡ written.Size n → name ≤ 0x40000000
+pub sized_fits : (name video audio : ℕ) (packing : Packing) (n : ℕ) → sized_of name video audio packing ≡ Ok n → name ≤ 0x40000000
 unfolding sized_of
 sized_fits name video audio packing n e =
     let film = film_size name video audio packing in
@@ -142,9 +149,9 @@ sized_fits name video audio packing n e =
     let b = tested (ltb 0x40000000 film) TooLong _ n a.1 in
     omega (arith, ltb-false 0x40000000 film b.0, sizes_hold name video audio packing)
 
-pub headed_so : (size : ℕ) (planned : Written) (n : ℕ) → headed_by size planned ≡ written.Size n → (planned ≡ written.Size (film_in planned)) × (size ≡ n)
-headed_so size (written.Size film) n e = (refl, cc)
-headed_so size (written.Refused refusal) n e = let z : ◌≡◌ {A = ℕ} 0 1 = cc in absurd (omega arith)
+pub headed_so : (size : ℕ) (planned : Result ℕ Refusal) (n : ℕ) → headed_by size planned ≡ Ok n → (planned ≡ Ok (film_in planned)) × (size ≡ n)
+headed_so size (Ok film) n e = (refl, cc)
+headed_so size (Err refusal) n e = let z : ◌≡◌ {A = ℕ} 0 1 = cc in absurd (omega arith)
 
 -- ---- a film that is planned
 
@@ -155,7 +162,7 @@ pub record Accepted (name video audio : List ℕ) (packing : Packing) (n : ℕ) 
   pub unmarked : (any_marked (payloads_of video) || any_marked (payloads_of audio)) ≡ false
   pub sized : n ≡ length (film_bytes name video audio packing)
 
-pub accepted : (name video audio : List ℕ) (packing : Packing) (n : ℕ) → planned_of name video audio packing ≡ written.Size n → Accepted name video audio packing n
+pub accepted : (name video audio : List ℕ) (packing : Packing) (n : ℕ) → planned_of name video audio packing ≡ Ok n → Accepted name video audio packing n
 unfolding planned_of
 accepted name video audio packing n e =
     let film = length (film_bytes name video audio packing) in

@@ -1,4 +1,5 @@
 -- How large sizes can be, so that no sum wraps, and that a film is at least as long as what it is made of. Assumes nothing.
+use Rattle.std.specs.Prelude.{Option, Some, None}
 use Prim.Native.Nat.{ℕ, ◌+◌, ◌-◌, ◌*◌, ◌%◌, ◌≤◌, ◌<◌}
 use mathlib.Core.Path.{◌≡◌, refl}
 use mathlib.Core.List.{List}
@@ -8,16 +9,14 @@ use native.Mathlib.Omega.{arith}
 use lib.ListN.{length}
 use borrow.Author.Tests.{eq-eqb, ne_eqb}
 use Rattle.laws.proofs.Side.{side}
-use Rattle.codec.specs.declared.Codec.{Codec}
-use Rattle.codec.specs.declared.Codec.TheVariants.{Value, Absent}
 use Rattle.write_plan.specs.declared.Packing.{Packing}
 use Rattle.write_plan.specs.Films.{film_bytes}
 use Rattle.write_plan.specs.Sizes.{block_size, codec_size, frame_size, ends_size, header_size, last_size, stream_size, film_size}
 use Rattle.write_plan.proofs.LengthLaws.{film_length}
 
-pub codec_fits : (codec : Codec) → codec_size codec ≤ 0x60
-codec_fits (Value n) = omega arith
-codec_fits Absent = omega arith
+pub codec_fits : (codec : Option ℕ) → codec_size codec ≤ 0x60
+codec_fits (Some n) = omega arith
+codec_fits None = omega arith
 
 either_fits : (audio : Bool) (video other : ℕ) → video ≤ 0x60 → other ≤ 0x60 → cond audio (video + other + 8 * 0x40) (video + 4 * 0x40) ≤ 704
 either_fits true video other h k = omega arith

@@ -1,7 +1,5 @@
 -- How long a film is, by the lengths of what it is made of. It serves the contracts of what measures; the rules do not name it, and speak of the film's own length.
-use Rattle.std.specs.Prelude.{ℕ, ◌+◌, ◌-◌, ◌*◌, ◌/◌, ◌%◌, Bool, cond, eqb}
-use Rattle.codec.specs.declared.Codec.{Codec}
-use Rattle.codec.specs.declared.Codec.TheVariants.{Value, Absent}
+use Rattle.std.specs.Prelude.{ℕ, ◌+◌, ◌-◌, ◌*◌, ◌/◌, ◌%◌, Bool, cond, eqb, Option, Some, None}
 use Rattle.word.specs.Bytes.{padding}
 use Rattle.write_plan.specs.declared.Packing.{Packing}
 
@@ -10,9 +8,9 @@ abbrev pub block_size : ℕ → ℕ
 block_size n = 0x20 + n + padding n
 
 -- a block with a codec's table: 52 or 53 bytes, or the 32 of a table without a column
-abbrev pub codec_size : Codec → ℕ
-codec_size (Value n) = 0x60
-codec_size Absent = 0x40
+abbrev pub codec_size : Option ℕ → ℕ
+codec_size (Some n) = 0x60
+codec_size None = 0x40
 
 -- the blocks beside the name's that hold no payload: the codecs', and four for each stream
 abbrev pub frame_size : Packing → ℕ

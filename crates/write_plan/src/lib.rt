@@ -11,19 +11,16 @@ ghost use Rattle.write_plan.specs.Films.{bytes_of, in_each, audio_in};
 ghost use Rattle.write_plan.specs.Sizes.{block_size, codec_size, frame_size, header_size, last_size, stream_size, film_size, size_in};
 ghost use Rattle.write_plan.specs.Planning.{is_given, any_marked, refused_by, within_limit, sized_of, headed_by, planned_of};
 
-use codec::Codec;
-use lent::Written;
 use refusal::{Cause, LONGEST, Refusal};
-use unmasking::Key;
 use write_blocks::{CHUNK, PAYLOAD};
 
 // How a film is packed: whether there is audio, both codecs, and the key that masks.
 #[derive(Clone, Copy)]
 pub struct Packing {
     pub audio: bool,
-    pub mpeg_codec: Codec,
-    pub audio_codec: Codec,
-    pub key: Key,
+    pub mpeg_codec: Option<u32>,
+    pub audio_codec: Option<u32>,
+    pub key: Option<u64>,
 }
 
 // Which stream a block belongs to.
@@ -42,12 +39,12 @@ fn block_size(len: usize) -> usize
 }
 
 // The size of a block with a codec's table.
-fn codec_size(codec: Codec) -> usize
+fn codec_size(codec: Option<u32>) -> usize
     ensures { result ≡ codec_size codec }
 {
     match codec {
-        Codec::Value(_) => 0x60,
-        Codec::Absent => 0x40,
+        Some(_) => 0x60,
+        None => 0x40,
     }
 }
 
@@ -67,10 +64,7 @@ fn frame_size(packing: Packing) -> usize
 pub fn ends_size(audio: bool) -> usize
     ensures { result ≡ length (bytes_of (in_each audio (λ stream. marker_of contents_end))) }
 {
-    if audio {
-        return 0x80;
-    }
-    0x40
+    if audio { 0x80 } else { 0x40 }
 }
 
 // The size of the header, by the length of the name.
@@ -86,10 +80,7 @@ fn last_size(len: usize) -> usize
     requires { len < 2 ^ 32 }
     ensures { result ≡ last_size len }
 {
-    if len == 0 {
-        return 0;
-    }
-    block_size(len)
+    if len == 0 { 0 } else { block_size(len) }
 }
 
 // The size of the chunks of a stream of `len` bytes.
@@ -126,30 +117,19 @@ pub fn payload_from(stream: &[u8], from: usize) -> &[u8]
 fn any_marked(stream: &[u8]) -> bool
     ensures { result ≡ any_marked (payloads_of stream.now) }
 {
-    let mut from = 0;
-    loop {
-        if signature::stands_at(b"#CONTENTS END", payload_from(stream, from), 0) {
+    for payload in stream.chunks(PAYLOAD) {
+        if signature::stands_at(b"#CONTENTS END", payload, 0) {
             return true;
         }
-        if stream.len() - from <= PAYLOAD {
-            return false;
-        }
-        from += PAYLOAD;
     }
+    false
 }
 
 // Whether an audio codec is given, and no audio.
 fn is_alone(packing: Packing) -> bool
     ensures { result ≡ (not packing.audio && is_given packing.audio_codec) }
 {
-    if packing.audio {
-        return false;
-    }
-    let codec = packing.audio_codec;
-    match codec {
-        Codec::Value(_) => true,
-        Codec::Absent => false,
-    }
+    !packing.audio && packing.audio_codec.is_some()
 }
 
 // What there is of the audio.
@@ -162,39 +142,27 @@ pub fn audio_in(packing: Packing, audio: &[u8]) -> &[u8]
     &audio[0..0]
 }
 
-// A refusal, at place 0.
-fn refused(cause: Cause) -> Written
-    ensures { result ≡ refused_by cause }
-{
-    Written::Refused(Refusal { cause, place: 0 })
-}
-
 // The size of a film by the lengths of its name and streams, or that it is over the limit.
-fn within_limit(name: usize, video: usize, audio: usize, packing: Packing) -> Written
+fn within_limit(name: usize, video: usize, audio: usize, packing: Packing) -> Result<usize, Refusal>
     ensures { result ≡ within_limit (film_size name video audio packing) }
 {
-    if LONGEST < name {
-        return refused(Cause::TooLong);
-    }
-    if LONGEST < video {
-        return refused(Cause::TooLong);
-    }
-    if LONGEST < audio {
-        return refused(Cause::TooLong);
+    let longest = name.max(video).max(audio);
+    if LONGEST < longest {
+        return refusal::refused(Cause::TooLong, 0);
     }
     let size = film_size(name, video, audio, packing);
     if LONGEST < size {
-        return refused(Cause::TooLong);
+        return refusal::refused(Cause::TooLong, 0);
     }
-    Written::Size(size)
+    Ok(size)
 }
 
 // The size of a film by the lengths of its name and streams, or why it is refused whatever they hold.
-fn plan_sizes(name: usize, video: usize, audio: usize, packing: Packing) -> Written
+fn plan_sizes(name: usize, video: usize, audio: usize, packing: Packing) -> Result<usize, Refusal>
     ensures { result ≡ sized_of name video audio packing }
 {
     if is_alone(packing) {
-        return refused(Cause::CodecAlone);
+        return refusal::refused(Cause::CodecAlone, 0);
     }
     within_limit(name, video, audio, packing)
 }
@@ -203,37 +171,30 @@ fn plan_sizes(name: usize, video: usize, audio: usize, packing: Packing) -> Writ
 pub fn audio_size(packing: Packing, audio: usize) -> usize
     ensures { result ≡ size_in packing audio }
 {
-    if packing.audio {
-        return audio;
-    }
-    0
+    if packing.audio { audio } else { 0 }
 }
 
 // The size of the header of a film by the lengths of its name and streams, or why the film is refused whatever they hold.
-pub fn plan_header(name: usize, video: usize, audio: usize, packing: Packing) -> Written
+pub fn plan_header(
+    name: usize,
+    video: usize,
+    audio: usize,
+    packing: Packing,
+) -> Result<usize, Refusal>
     ensures { result ≡ headed_by (header_size name packing) (sized_of name video (size_in packing audio) packing) }
 {
-    match plan_sizes(name, video, audio_size(packing, audio), packing) {
-        Written::Size(_) => Written::Size(header_size(name, packing)),
-        Written::Refused(refusal) => Written::Refused(refusal),
-    }
+    plan_sizes(name, video, audio_size(packing, audio), packing)?;
+    Ok(header_size(name, packing))
 }
 
 // The size of a film, or why it is refused whatever the output. Where there is no audio, `audio` is not looked at.
-pub fn plan(name: &[u8], video: &[u8], audio: &[u8], packing: Packing) -> Written
+pub fn plan(name: &[u8], video: &[u8], audio: &[u8], packing: Packing) -> Result<usize, Refusal>
     ensures { result ≡ planned_of name.now video.now (audio_in packing audio.now) packing }
 {
     let audio = audio_in(packing, audio);
-    match plan_sizes(name.len(), video.len(), audio.len(), packing) {
-        Written::Size(size) => {
-            if any_marked(video) {
-                return refused(Cause::MarkedPayload);
-            }
-            if any_marked(audio) {
-                return refused(Cause::MarkedPayload);
-            }
-            Written::Size(size)
-        }
-        Written::Refused(refusal) => Written::Refused(refusal),
+    let size = plan_sizes(name.len(), video.len(), audio.len(), packing)?;
+    if any_marked(video) || any_marked(audio) {
+        return refusal::refused(Cause::MarkedPayload, 0);
     }
+    Ok(size)
 }

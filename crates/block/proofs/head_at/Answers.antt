@@ -1,8 +1,8 @@
 -- `block::head_at` meets its contract: each answer follows from the tests before it, and no sum is larger than a slice can be plus 2 ^ 32. Assumes nothing.
+use Rattle.std.specs.Prelude.{Ok}
 use mathlib.Core.Path.{sym, ap, ◌∙◌}
 use Prim.Native.Nat.{ℕ, ◌+◌}
 use native.Mathlib.Omega.{arith}
-use Rattle.block.specs.declared.BlockAnswer.TheVariants.{Next}
 use Rattle.block.proofs.BlockLaws.{head_cut, head_other, head-short, head_read}
 use Rattle.block.proofs.head_at.Goals as goal
 
@@ -27,5 +27,5 @@ pub returns : goal.returns
 returns c =
     let a = c.args in
     let r = c.read32 in
-    ap (λ (size : ℕ). Next (a.place + 8 + size)) c.read32-2.ensures.0
+    ap (λ (size : ℕ). Ok (a.place + 8 + size)) c.read32-2.ensures.0
     ∙ head_read a.bytes.now a.letters a.missing a.place (omega arith) (sym r.ensures.0 ∙ c.if-read32-letters.false) (omega arith)

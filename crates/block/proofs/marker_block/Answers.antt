@@ -1,12 +1,15 @@
 -- `block::marker_block` meets its contract: the marker is looked for after a head that was read. Assumes nothing.
 use mathlib.Core.Path.{sym, ◌∙◌}
+use Rattle.std.proofs.lemmas.Result.{err_from_is_err_and}
 use Rattle.block.specs.Blocks.{marker_block}
 use Rattle.block.proofs.marker_block.Goals as goal
 
-pub returns-in-Next : goal.returns-in-Next
+pub returns : goal.returns
 unfolding marker_block
-returns-in-Next c = rw (c.marked_at.ensures, sym c.head_at.ensures ∙ c.in-Next.is)
+returns c = rw (c.marked_at.ensures, sym c.head_at.ensures ∙ c.in_ok-next.was)
 
-pub returns-in-NoBlock : goal.returns-in-NoBlock
+pub returns-in_err-next : goal.returns-in_err-next
 unfolding marker_block
-returns-in-NoBlock c = rw (sym c.head_at.ensures ∙ c.in-NoBlock.is)
+returns-in_err-next c =
+    let p = err_from_is_err_and c.from_residual.result c.from_residual.ensures.1 in rw (p.1, p.2)
+    (rw (sym c.head_at.ensures ∙ c.in_err-next.was))

@@ -1,12 +1,7 @@
 -- `cell::zero_from` meets its contract: the search from `i` on has the answer of the whole search. Assumes nothing.
-use mathlib.Core.Path.{refl, sym, ◌∙◌}
-use Prim.Native.Nat.{◌-◌}
-use native.Mathlib.Omega.{arith}
+use Rattle.std.proofs.Common.{sym, ◌∙◌, arith}
 use Rattle.cell.proofs.Scan.{here, later, over}
 use Rattle.cell.proofs.zero_from.Goals as goal
-
-pub loop-i-init : goal.loop-i-init
-loop-i-init c = refl
 
 pub returns-then-body-i-eq0 : goal.returns-then-body-i-eq0
 returns-then-body-i-eq0 c =

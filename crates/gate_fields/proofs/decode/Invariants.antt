@@ -1,12 +1,8 @@
 -- `gate_fields::decode` meets its contract: both digits of each byte lie in the text. Assumes nothing.
-use Prim.Native.Nat.{◌-◌, ◌≤◌}
 use Rattle.laws.proofs.UptoLaws.{Upto}
-use Rattle.gate_fields.specs.Fields.{decoded}
 use Rattle.laws.specs.Lists.{at}
+use Rattle.gate_fields.specs.Fields.{decoded}
 use Rattle.gate_fields.proofs.decode.Given as goal
 
 abbrev pub invariant-loop-i : goal.invariant-loop-i
-invariant-loop-i l = Upto (at (decoded l.text)) l.initial.bytes l.bytes l.i × (l.i ≤ l.count)
-
-abbrev pub decreases-loop-i : goal.decreases-loop-i
-decreases-loop-i l = l.count - l.i
+invariant-loop-i l = Upto (at (decoded l.text)) l.initial.bytes l.bytes l.i

@@ -1,13 +1,12 @@
--- `gate_sample::fill` meets its contract: x is the generator's number after i steps, and the bytes below i are filled. Assumes nothing.
-use Prim.Native.Nat.{◌-◌, ◌≤◌, ◌<◌}
-use mathlib.Core.Path.{◌≡◌}
-use lib.ListN.{length}
+-- `gate_sample::fill` meets its contract: x is the generator's number after as many steps as bytes are filled. Assumes nothing.
+use Rattle.std.proofs.Common.{◌≡◌, ◌<◌}
 use Rattle.laws.proofs.UptoLaws.{Upto}
 use Rattle.gate_sample.specs.Recorded.{number, sample_byte}
 use Rattle.gate_sample.proofs.fill.Given as goal
 
-abbrev pub invariant-loop-i : goal.invariant-loop-i
-invariant-loop-i l = (l.i ≤ length l.initial.bytes) × (l.x < 0x80000000) × (l.x ≡ number l.i) × Upto sample_byte l.initial.bytes l.bytes l.i
-
-abbrev pub decreases-loop-i : goal.decreases-loop-i
-decreases-loop-i l = length l.initial.bytes - l.i
+abbrev pub invariant-loop-byte : goal.invariant-loop-byte
+invariant-loop-byte l = record {
+  small : l.x < 0x80000000;
+  steps : l.x ≡ number l.byte-index;
+  filled : Upto sample_byte l.initial.bytes l.bytes l.byte-index;
+}

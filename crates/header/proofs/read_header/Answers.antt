@@ -9,7 +9,7 @@ pub returns-then-container-gt-LONGEST : goal.returns-then-container-gt-LONGEST
 unfolding header_of
 returns-then-container-gt-LONGEST c =
     let s = c.args.container.now in
-    rw (lt-ltb 0x40000000 (length s) (omega arith))
+    rw (c.refused.ensures, lt-ltb 0x40000000 (length s) (omega arith))
 
 pub returns : goal.returns
 unfolding header_of

@@ -13,4 +13,4 @@ returns-in-Other c = rw (c.finished.ensures, c.step_4-end.ensures, sym c.ahead_a
 
 pub returns-in-Cut : goal.returns-in-Cut
 unfolding step3
-returns-in-Cut c = rw (sym c.ahead_at.ensures ∙ c.in-Cut.is)
+returns-in-Cut c = rw (c.refused.ensures, sym c.ahead_at.ensures ∙ c.in-Cut.is)

@@ -1,12 +1,15 @@
 -- `header::step_6` meets its contract: the block is read, and the walk goes on where the next stands. Assumes nothing.
 use mathlib.Core.Path.{sym, ◌∙◌}
+use Rattle.std.proofs.lemmas.Result.{err_from_is_err_and}
 use Rattle.header.specs.Headers.{step6}
 use Rattle.header.proofs.step_6.Goals as goal
 
-pub returns-in-Next : goal.returns-in-Next
+pub returns : goal.returns
 unfolding step6
-returns-in-Next c = rw (c.step_7.ensures, sym c.table_block.ensures ∙ c.in-Next.is)
+returns c = rw (c.step_7.ensures, sym c.table_block.ensures ∙ c.in_ok-next.was)
 
-pub returns-in-NoBlock : goal.returns-in-NoBlock
+pub returns-in_err-next : goal.returns-in_err-next
 unfolding step6
-returns-in-NoBlock c = rw (sym c.table_block.ensures ∙ c.in-NoBlock.is)
+returns-in_err-next c =
+    let p = err_from_is_err_and c.from_residual.result c.from_residual.ensures.1 in rw (p.1, p.2)
+    (rw (sym c.table_block.ensures ∙ c.in_err-next.was))

@@ -13,7 +13,7 @@ returns-in-Other c = rw (c.step_8.ensures, c.if-audio.true, sym c.ahead_at.ensur
 
 pub returns-in-Cut : goal.returns-in-Cut
 unfolding step7
-returns-in-Cut c = rw (c.if-audio.true, sym c.ahead_at.ensures ∙ c.in-Cut.is)
+returns-in-Cut c = rw (c.refused.ensures, c.if-audio.true, sym c.ahead_at.ensures ∙ c.in-Cut.is)
 
 pub returns : goal.returns
 unfolding step7

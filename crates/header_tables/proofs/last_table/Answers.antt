@@ -8,6 +8,6 @@ pub returns-then-read32-eq-SFA : goal.returns-then-read32-eq-SFA
 unfolding last_table
 returns-then-read32-eq-SFA c = rw (eq-eqb _ _ (sym c.read32.ensures.0 ∙ c.if-read32-eq-SFA.true))
 
-pub returns : goal.returns
+pub returns-else-read32-eq-SFA : goal.returns-else-read32-eq-SFA
 unfolding last_table
-returns c = rw (ne_eqb _ _ (λ e. c.if-read32-eq-SFA.false (c.read32.ensures.0 ∙ e)))
+returns-else-read32-eq-SFA c = rw (ne_eqb _ _ (λ e. c.if-read32-eq-SFA.false (c.read32.ensures.0 ∙ e)))

@@ -1,5 +1,7 @@
 -- `key::table_t` meets its contract: what each sum and difference ensures, put into the list. Assumes nothing.
+use Rattle.std.proofs.Common.{◌∙◌, List, ℕ, ap}
 use lib.Bits.{bit_xor}
+use Rattle.laws.specs.Lists.{at}
 use Rattle.key.specs.KeyTable.{table_t}
 use Rattle.key.proofs.TableLaws.{key_low, table_is}
 use Rattle.key.proofs.table_t.Goals as goal
@@ -7,8 +9,15 @@ use Rattle.key.proofs.table_t.Goals as goal
 pub returns : goal.returns
 unfolding table_t
 returns c =
+    let byte = λ (i : ℕ). ap (λ (z : List ℕ). at z i) c.to_le_bytes.ensures in
     table_is bit_xor c.args.key
-    (key_low _)
+    (byte 0 ∙ key_low _)
+    (byte 1)
+    (byte 2)
+    (byte 3)
+    (byte 4)
+    (byte 5)
+    (byte 6)
     c.sub-t3.ensures
     c.add-t4.ensures
     c.add-t6.ensures

@@ -1,11 +1,7 @@
 -- `key_apart::first_parting` meets its contract: no position before p parts. Assumes nothing.
-use Prim.Native.Nat.{◌-◌}
 use Rattle.key_apart.specs.PayloadsApart.{parts_at}
 use Rattle.key_apart.proofs.FirstLaws.{Looking}
 use Rattle.key_apart.proofs.first_parting.Given as goal
 
 abbrev pub invariant-loop-p : goal.invariant-loop-p
 invariant-loop-p l = Looking (parts_at l.mask l.keys.t l.others.t) l.len l.p
-
-abbrev pub decreases-loop-p : goal.decreases-loop-p
-decreases-loop-p l = l.len - l.p

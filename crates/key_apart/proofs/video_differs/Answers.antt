@@ -11,6 +11,6 @@ pub returns-then-p-lt-TAIL : goal.returns-then-p-lt-TAIL
 unfolding video_differs
 returns-then-p-lt-TAIL c = rw (le-ltb _ _ c.if-p-lt64.false, lt-ltb _ _ c.if-p-lt-TAIL.true) c.head_row_differs.ensures
 
-pub returns : goal.returns
+pub returns-else-p-lt-TAIL : goal.returns-else-p-lt-TAIL
 unfolding video_differs
-returns c = rw (le-ltb _ _ c.if-p-lt64.false, le-ltb _ _ c.if-p-lt-TAIL.false)
+returns-else-p-lt-TAIL c = rw (le-ltb _ _ c.if-p-lt64.false, le-ltb _ _ c.if-p-lt-TAIL.false)

@@ -9,17 +9,17 @@ use Rattle.lookup.proofs.column_cell.Goals as goal
 pub moved_cell-requires : goal.moved_cell-requires
 moved_cell-requires c =
     let a = c.args in
-    let column = c.in-Found.column in
-    let within = in_end a.body.now a.entry (a.at + a.offset) a.layout column (sym c.read_column.ensures ∙ c.in-Found.is) in
+    let column = c.in-Ok.column in
+    let within = in_end a.body.now a.entry (a.at + a.offset) a.layout column (sym c.read_column.ensures ∙ c.in-Ok.is) in
     omega (arith, within, ap end_of_answer c.cell_in.ensures, shift_le column.storage a.by, c.shift_in.ensures)
 
-pub returns-in-Found : goal.returns-in-Found
-returns-in-Found c =
+pub returns-in-Ok : goal.returns-in-Ok
+returns-in-Ok c =
     let a = c.args in
     c.moved_cell.ensures ∙ ap₂ moved c.shift_in.ensures c.cell_in.ensures
-    ∙ sym (ap (column_cell a.body.now a.by (a.at + a.offset) a.layout) (sym c.read_column.ensures ∙ c.in-Found.is))
+    ∙ sym (ap (column_cell a.body.now a.by (a.at + a.offset) a.layout) (sym c.read_column.ensures ∙ c.in-Ok.is))
 
-pub returns-in-NoColumn : goal.returns-in-NoColumn
-returns-in-NoColumn c =
+pub returns-in-Err : goal.returns-in-Err
+returns-in-Err c =
     let a = c.args in
-    sym (ap (column_cell a.body.now a.by (a.at + a.offset) a.layout) (sym c.read_column.ensures ∙ c.in-NoColumn.is))
+    sym (ap (column_cell a.body.now a.by (a.at + a.offset) a.layout) (sym c.read_column.ensures ∙ c.in-Err.is))

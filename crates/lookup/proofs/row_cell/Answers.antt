@@ -1,7 +1,5 @@
 -- `lookup::row_cell` meets its contract: a row that the table has is looked up in its body, which the slice holds. Assumes nothing.
-use mathlib.Core.Path.{sym, ap, ◌∙◌}
-use native.Mathlib.Omega.{arith}
-use Rattle.lookup.specs.Lookups.{placed}
+use Rattle.std.proofs.Common.{◌∙◌, arith}
 use Rattle.lookup.proofs.LookupLaws.{no_row, in_row}
 use Rattle.lookup.proofs.row_cell.Goals as goal
 
@@ -10,14 +8,8 @@ returns-then-layout-row c =
     let a = c.args in
     no_row a.bytes.now a.place a.name.now a.row a.layout (omega arith)
 
-pub returns-in-Got : goal.returns-in-Got
-returns-in-Got c =
+pub returns : goal.returns
+returns c =
     let a = c.args in
-    sym (ap (placed a.place) c.in-Got.is)
-    ∙ in_row a.bytes.now a.place a.name.now a.row a.layout c.body_cell.result (omega (arith, c.if-layout-row.false)) c.body_cell.ensures
-
-pub returns-in-Refused : goal.returns-in-Refused
-returns-in-Refused c =
-    let a = c.args in
-    sym (ap (placed a.place) c.in-Refused.is)
+    c.placed_at.ensures
     ∙ in_row a.bytes.now a.place a.name.now a.row a.layout c.body_cell.result (omega (arith, c.if-layout-row.false)) c.body_cell.ensures

@@ -7,7 +7,4 @@ use Rattle.mask.proofs.ClearLaws.{cleared_at, all}
 use Rattle.mask.proofs.clear_each.Given as goal
 
 abbrev pub invariant-loop-r : goal.invariant-loop-r
-invariant-loop-r l = (0x20 ≤ length l.initial.rows) × (l.whole ≡ length l.initial.rows / 0x20 - 1) × (l.r ≤ l.whole) × Upto (cleared_at all l.v l.initial.rows) l.initial.rows l.rows (l.r * 0x20 + 0x20)
-
-abbrev pub decreases-loop-r : goal.decreases-loop-r
-decreases-loop-r l = l.whole - l.r
+invariant-loop-r l = (0x20 ≤ length l.initial.rows) × (l.whole ≡ length l.initial.rows / 0x20 - 1) × Upto (cleared_at all l.v l.initial.rows) l.initial.rows l.rows (l.r * 0x20 + 0x20)

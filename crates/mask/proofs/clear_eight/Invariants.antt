@@ -1,5 +1,4 @@
 -- `mask::clear_eight` meets its contract: the lanes before `lane` are clear, and the others are as they were. Assumes nothing.
-use Prim.Native.Nat.{◌-◌, ◌≤◌}
 use mathlib.Core.Path.{◌≡◌}
 use lib.ListN.{length}
 use Rattle.mask.specs.Rows.{cleared_where}
@@ -7,7 +6,4 @@ use Rattle.mask.proofs.LaneLaws.{before}
 use Rattle.mask.proofs.clear_eight.Given as goal
 
 abbrev pub invariant-loop-lane : goal.invariant-loop-lane
-invariant-loop-lane l = (length l.initial.rows ≡ 0x120) × (length l.rows ≡ 0x120) × (l.lane ≤ 0x20) × (l.rows ≡ cleared_where (before l.lane) l.v l.initial.rows)
-
-abbrev pub decreases-loop-lane : goal.decreases-loop-lane
-decreases-loop-lane l = 0x20 - l.lane
+invariant-loop-lane l = (length l.initial.rows ≡ 0x120) × (length l.rows ≡ 0x120) × (l.rows ≡ cleared_where (before l.lane) l.v l.initial.rows)

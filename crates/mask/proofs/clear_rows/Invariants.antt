@@ -8,8 +8,5 @@ use Rattle.mask.proofs.clear_rows.Given as goal
 
 abbrev pub invariant-loop-turn : goal.invariant-loop-turn
 invariant-loop-turn l =
-    (0x20 ≤ length l.initial.rows) × (l.turns ≡ (length l.initial.rows - 0x20) / 0x100) × (l.turn ≤ l.turns)
+    (0x20 ≤ length l.initial.rows) × (l.turns ≡ (length l.initial.rows - 0x20) / 0x100)
     × Upto (cleared_at all l.v l.initial.rows) l.initial.rows l.rows (l.turn * 0x100 + 0x20)
-
-abbrev pub decreases-loop-turn : goal.decreases-loop-turn
-decreases-loop-turn l = l.turns - l.turn

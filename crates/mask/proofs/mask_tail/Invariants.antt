@@ -11,9 +11,6 @@ use Rattle.mask.proofs.mask_tail.Given as goal
 
 abbrev pub invariant-loop-r : goal.invariant-loop-r
 invariant-loop-r l =
-    (0x140 ≤ length l.initial.payload) × (l.rows ≡ (length l.initial.payload - 0x140) / 0x20) × (l.r ≤ l.rows)
+    (0x140 ≤ length l.initial.payload) × (l.rows ≡ (length l.initial.payload - 0x140) / 0x20)
     × Upto (with_tail_at (stored l.v l.initial.payload) l.initial.payload) l.initial.payload l.payload (0x140 + l.r * 0x20)
     × ((lane : ℕ) → lane < 0x20 → at l.mask lane ≡ prior l.v l.initial.payload l.r lane)
-
-abbrev pub decreases-loop-r : goal.decreases-loop-r
-decreases-loop-r l = l.rows - l.r

@@ -22,4 +22,4 @@ returns c =
     on_rows _ args.last rows (search rules) _
     (upto_xored _ rows rows _ _ 0 0x20 (upto_none _ rows) (omega arith) (omega arith) c.xor_in-2.ensures
     (λ lane h. on_first_row _ args.last rows (search rules) _ lane c.xor_of-first.ensures (omega arith)))
-    _ c.clear_rows_on.ensures
+    _ c.clear_rows.ensures

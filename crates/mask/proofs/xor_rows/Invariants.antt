@@ -1,5 +1,5 @@
 -- `mask::xor_rows` meets its contract: after r rows the bytes below 0x20 r are XORed, and the rest are as they were. Assumes nothing.
-use Prim.Native.Nat.{◌*◌, ◌≤◌, ◌-◌, ◌/◌}
+use Prim.Native.Nat.{◌*◌, ◌/◌}
 use mathlib.Core.Path.{◌≡◌}
 use lib.ListN.{length}
 use Rattle.laws.proofs.UptoLaws.{Upto}
@@ -7,7 +7,4 @@ use Rattle.mask.proofs.AudioLaws.{rows_at}
 use Rattle.mask.proofs.xor_rows.Given as goal
 
 abbrev pub invariant-loop-r : goal.invariant-loop-r
-invariant-loop-r l = (l.n ≡ length l.initial.rows) × (l.whole ≡ length l.initial.rows / 0x20) × (l.r ≤ l.whole) × Upto (rows_at l.a l.initial.rows) l.initial.rows l.rows (l.r * 0x20)
-
-abbrev pub decreases-loop-r : goal.decreases-loop-r
-decreases-loop-r l = l.whole - l.r
+invariant-loop-r l = (l.whole ≡ length l.initial.rows / 0x20) × Upto (rows_at l.a l.initial.rows) l.initial.rows l.rows (l.r * 0x20)

@@ -13,20 +13,20 @@ use Rattle.moved_film.proofs.find.Goals as goal
 pub found_as-requires : goal.found_as-requires
 found_as-requires c =
     let a = c.args in
-    let head = c.in-Read.head in
-    let answer = sym (c.read_header.ensures ∙ ap (header_of a.container.now) c.as_original.ensures) ∙ c.in-Read.is in
+    let head = c.in-Ok.head in
+    let answer = sym (c.read_header.ensures ∙ ap (header_of a.container.now) c.as_original.ensures) ∙ c.in-Ok.is in
     let name = name_read a.container (record { ref_ptr = (_, 0); now = [] }) head.name c.name_of-name.result c.name_of-name.ensures refl in
     (omega (arith, ap length name, name_few a.container.now head.name, within a.container.now _ head answer), ap (λ (p : Packing). p.key) c.packing_by.ensures, rw c.packing_by.ensures (not_alone a.container.now _ head answer))
 
-pub returns-in-Read : goal.returns-in-Read
-returns-in-Read c =
+pub returns-in-Ok : goal.returns-in-Ok
+returns-in-Ok c =
     let a = c.args in
-    let head = c.in-Read.head in
-    let answer = sym (c.read_header.ensures ∙ ap (header_of a.container.now) c.as_original.ensures) ∙ c.in-Read.is in
+    let head = c.in-Ok.head in
+    let answer = sym (c.read_header.ensures ∙ ap (header_of a.container.now) c.as_original.ensures) ∙ c.in-Ok.is in
     let name = name_read a.container (record { ref_ptr = (_, 0); now = [] }) head.name c.name_of-name.result c.name_of-name.ensures refl in
     c.found_as.ensures ∙ ap₂ (λ (l : List ℕ) (p : Packing). found_as a.container.now (parts_from a.container.now l p)) name c.packing_by.ensures ∙ found_read a.container.now head answer
 
-pub returns-in-Refused : goal.returns-in-Refused
-returns-in-Refused c =
+pub returns-in-Err : goal.returns-in-Err
+returns-in-Err c =
     let a = c.args in
-    found_none a.container.now _ (sym (c.read_header.ensures ∙ ap (header_of a.container.now) c.as_original.ensures) ∙ c.in-Refused.is)
+    found_none a.container.now _ (sym (c.read_header.ensures ∙ ap (header_of a.container.now) c.as_original.ensures) ∙ c.in-Err.is)

@@ -9,19 +9,19 @@ use Rattle.moved_film.proofs.found_as.Goals as goal
 
 pub overflow_sub-cut : goal.overflow_sub-cut
 overflow_sub-cut c =
-    (cut_fits c.args.packing c.requires.1 c.requires.2 c.write.ensures c.in-Size.is c.ends_size-ends.ensures).0
+    (cut_fits c.args.packing c.requires.1 c.requires.2 c.write.ensures c.in-Ok.is c.ends_size-ends.ensures).0
 
-pub overflow_sub-cut-in-Size : goal.overflow_sub-cut-in-Size
-overflow_sub-cut-in-Size c =
-    (cut_fits c.args.packing c.requires.1 c.requires.2 c.write.ensures c.in-Size.is c.ends_size-ends.ensures).1
+pub overflow_sub-cut-in-Ok : goal.overflow_sub-cut-in-Ok
+overflow_sub-cut-in-Ok c =
+    (cut_fits c.args.packing c.requires.1 c.requires.2 c.write.ensures c.in-Ok.is c.ends_size-ends.ensures).1
 
 pub rebuild-requires : goal.rebuild-requires
 rebuild-requires c =
     let a = c.args in
-    let rest = c.part_at-rest.ensures.2 ∙ rest_is a.packing c.requires.1 c.requires.2 c.write.ensures c.in-Size.is c.ends_size-ends.ensures in
-    let last = c.part_at-last.ensures.2 ∙ ends_are a.packing c.requires.1 c.requires.2 c.write.ensures c.in-Size.is c.ends_size-ends.ensures in
+    let rest = c.part_at-rest.ensures.2 ∙ rest_is a.packing c.requires.1 c.requires.2 c.write.ensures c.in-Ok.is c.ends_size-ends.ensures in
+    let last = c.part_at-last.ensures.2 ∙ ends_are a.packing c.requires.1 c.requires.2 c.write.ensures c.in-Ok.is c.ends_size-ends.ensures in
     (c.requires.0, c.requires.1, header_bytes a.name.now a.packing ∙ ap (λ (l : List ℕ). name_block a.name.now ++ l) (sym rest), last)
 
-pub returns-in-Refused : goal.returns-in-Refused
-returns-in-Refused c =
-    absurd (not_refused c.args.packing c.requires.1 c.requires.2 c.write.ensures _ c.in-Refused.is)
+pub returns-in-Err : goal.returns-in-Err
+returns-in-Err c =
+    absurd (not_refused c.args.packing c.requires.1 c.requires.2 c.write.ensures _ c.in-Err.is)

@@ -1,32 +1,35 @@
 -- `old_film::ends_stand` meets its contract: one end after the other. Assumes nothing.
-use mathlib.Core.Path.{refl, sym, ◌∙◌}
-use mathlib.Core.Bool.{true, false}
-use native.Mathlib.Omega.{arith}
+use Rattle.std.proofs.Common.{◌≡◌, ℕ, ◌+◌, ◌-◌, ◌<◌, true, false, sym, ap, ◌∙◌, arith}
+use Rattle.old_film.specs.Finding.{closes_with}
 use Rattle.old_film.proofs.EndLaws.{end_fits, ends_more, ends_not, ends_last}
 use Rattle.old_film.proofs.ends_stand.Goals as goal
 
-pub loop-left-init : goal.loop-left-init
-loop-left-init c = refl
-
 pub overflow_add-at : goal.overflow_add-at
-overflow_add-at c = omega (arith, end_fits c.args.container.now c.loop-left.at (sym c.end_stands.ensures ∙ c.if-end_stands.true))
+overflow_add-at c = omega (arith, end_fits c.args.container.now c.loop-audio.at (sym c.end_stands.ensures ∙ c.if-not-end_stands.false))
 
-pub overflow_sub-left : goal.overflow_sub-left
-overflow_sub-left c = omega (arith, c.loop-left-test.true)
+pub loop-audio-preserved : goal.loop-audio-preserved
+loop-audio-preserved c =
+    let l = c.loop-audio in
+    let some : 0 < c.args.count - l._audio = omega arith in
+    let less : c.args.count - (l._audio + 1) ≡ c.args.count - l._audio - 1 = omega arith in
+    ap (λ (n : ℕ). closes_with c.args.container.now (l.at + 28) n) less
+    ∙ ends_more c.args.container.now l.at (c.args.count - l._audio) some (sym c.end_stands.ensures ∙ c.if-not-end_stands.false) ∙ l.invariant
 
-pub loop-left-smaller : goal.loop-left-smaller
-loop-left-smaller c = omega (arith, c.loop-left-test.true)
+pub returns-then-not-end_stands : goal.returns-then-not-end_stands
+returns-then-not-end_stands c =
+    let l = c.loop-audio in
+    let some : 0 < c.args.count - l._audio = omega arith in
+    ends_not c.args.container.now l.at (c.args.count - l._audio) some (sym c.end_stands.ensures ∙ c.if-not-end_stands.true) ∙ l.invariant
 
-pub loop-left-preserved : goal.loop-left-preserved
-loop-left-preserved c = ends_more c.args.container.now c.loop-left.at c.loop-left.left c.loop-left-test.true (sym c.end_stands.ensures ∙ c.if-end_stands.true) ∙ c.loop-left.invariant
+pub returns-then-end_stands : goal.returns-then-end_stands
+returns-then-end_stands c =
+    let l = c.loop-audio in
+    let none : c.args.count - l._audio ≡ 0 = omega arith in
+    rw c.left_from.ensures (ends_last c.args.container.now l.at (c.args.count - l._audio) none true (sym c.end_stands-2.ensures ∙ c.if-end_stands.true) ∙ l.invariant)
 
 pub returns-else-end_stands : goal.returns-else-end_stands
-returns-else-end_stands c = ends_not c.args.container.now c.loop-left.at c.loop-left.left c.loop-left-test.true (sym c.end_stands.ensures ∙ c.if-end_stands.false) ∙ c.loop-left.invariant
-
-pub returns-then-end_stands-2 : goal.returns-then-end_stands-2
-returns-then-end_stands-2 c =
-    rw c.left_from.ensures (ends_last c.args.container.now c.loop-left.at c.loop-left.left (omega (arith, c.loop-left-test.false)) true (sym c.end_stands-2.ensures ∙ c.if-end_stands-2.true) ∙ c.loop-left.invariant)
-
-pub returns : goal.returns
-returns c =
-    ends_last c.args.container.now c.loop-left.at c.loop-left.left (omega (arith, c.loop-left-test.false)) false (sym c.end_stands-2.ensures ∙ c.if-end_stands-2.false) ∙ c.loop-left.invariant
+returns-else-end_stands c =
+    let l = c.loop-audio in
+    let none : c.args.count - l._audio ≡ 0 = omega arith in
+    rw c.if-end_stands.false
+    (ends_last c.args.container.now l.at (c.args.count - l._audio) none false (sym c.end_stands-2.ensures ∙ c.if-end_stands.false) ∙ l.invariant)

@@ -1,17 +1,10 @@
 -- `old_film::name_stands` meets its contract: what stands before the name, and the zeros behind it. Assumes nothing.
 use Prim.Native.Nat.{◌+◌}
-use mathlib.Core.Path.{sym, ap, ◌∙◌}
+use mathlib.Core.Path.{sym, ◌∙◌}
 use native.Mathlib.Omega.{arith}
-use lib.ListN.{length, length-replicate}
 use Rattle.turns.proofs.ChunkLaws.{some_of}
 use Rattle.old_film.proofs.name_stands.Goals as goal
-
-pub slice_bounds-stands_at-end-then-stands_at : goal.slice_bounds-stands_at-end-then-stands_at
-slice_bounds-stands_at-end-then-stands_at c = sym (ap length (some_of (1 + c.padding-count.result) 33 (omega (arith, c.padding-count.ensures))) ∙ length-replicate (1 + c.padding-count.result) 0)
 
 pub returns-then-stands_at : goal.returns-then-stands_at
 returns-then-stands_at c =
     rw (sym (rw c.name_head-head.ensures at c.stands_at.ensures) ∙ c.if-stands_at.true) (rw (some_of (1 + c.padding-count.result) 33 (omega (arith, c.padding-count.ensures)), c.padding-count.ensures) at c.stands_at-then-stands_at.ensures)
-
-pub returns : goal.returns
-returns c = rw (sym (rw c.name_head-head.ensures at c.stands_at.ensures) ∙ c.if-stands_at.false)

@@ -1,5 +1,4 @@
 -- `old_film_many::count_in` meets its contract: those counted, with those from here on, are all. Assumes nothing.
-use Prim.Native.Nat.{◌-◌}
 use mathlib.Core.Path.{sym, ◌∙◌}
 use native.Mathlib.Omega.{arith}
 use Rattle.old_film_many.proofs.CountLaws.{all_counted, there_fits, count_more, count_done}

@@ -1,5 +1,4 @@
 -- `old_film_many::first_audios` meets its contract: the chunks so far, with those from here on, are all. Assumes nothing.
-use Prim.Native.Nat.{◌-◌}
 use native.Mathlib.Omega.{arith}
 use Rattle.old_film_many.proofs.NextLaws.{all_first, first_more, first_done}
 use Rattle.old_film_many.proofs.first_audios.Goals as goal
@@ -12,12 +11,6 @@ overflow_cast-number c = omega (arith, c.loop-number-test.true, c.requires.1)
 
 pub end_at-next-requires : goal.end_at-next-requires
 end_at-next-requires c = c.loop-number.invariant.within
-
-pub overflow_add-number : goal.overflow_add-number
-overflow_add-number c = omega (arith, c.loop-number-test.true, c.requires.1)
-
-pub loop-number-smaller : goal.loop-number-smaller
-loop-number-smaller c = omega (arith, c.loop-number-test.true)
 
 pub loop-number-preserved : goal.loop-number-preserved
 loop-number-preserved c =

@@ -1,5 +1,4 @@
 -- `old_film_many::next_audios` meets its contract: the chunks of the turn before say whose chunks are next. Assumes nothing.
-use Prim.Native.Nat.{◌-◌}
 use native.Mathlib.Omega.{arith}
 use Rattle.turns.specs.declared.Form.TheVariants.{Old}
 use Rattle.turns.proofs.TurnLaws.{size_holds}

@@ -5,7 +5,7 @@ use Rattle.pieces.proofs.step_in.Goals as goal
 
 pub returns-then-total-gt-LONGEST : goal.returns-then-total-gt-LONGEST
 unfolding film_step
-returns-then-total-gt-LONGEST c = rw (c.too_long.ensures, lt-ltb 0x40000000 _ c.if-total-gt-LONGEST.true)
+returns-then-total-gt-LONGEST c = rw (c.refused.ensures, lt-ltb 0x40000000 _ c.if-total-gt-LONGEST.true)
 
 pub returns : goal.returns
 unfolding film_step

@@ -1,13 +1,8 @@
 -- `player::put` meets its contract: below `lane` the bytes are set. Assumes nothing.
-use Prim.Native.Nat.{◌≤◌, ◌-◌}
-use mathlib.Core.Path.{◌≡◌}
-use lib.ListN.{length}
+use Rattle.std.proofs.Common.{◌≡◌, length}
 use Rattle.laws.specs.Lists.{at}
 use Rattle.laws.proofs.UptoLaws.{Upto}
 use Rattle.player.proofs.put.Given as goal
 
 abbrev pub invariant-loop-lane : goal.invariant-loop-lane
-invariant-loop-lane l = (length l.initial.row ≡ 32) × (length l.bytes ≡ 32) × (l.lane ≤ 32) × Upto (at l.bytes) l.initial.row l.row l.lane
-
-abbrev pub decreases-loop-lane : goal.decreases-loop-lane
-decreases-loop-lane l = 32 - l.lane
+invariant-loop-lane l = (length l.initial.row ≡ 32) × (length l.bytes ≡ 32) × Upto (at l.bytes) l.initial.row l.row l.lane

@@ -1,27 +1,8 @@
--- `profile::broken_by` meets its contract, test by test: those of RuleLaws. Assumes nothing.
-use mathlib.Core.Path.{sym, ap, ◌∙◌}
-use Rattle.profile.specs.Profiles.{broken}
-use Rattle.profile.proofs.RuleLaws.{header_broken, block_broken, closed-broken, none_broken, letters_broken}
+-- `profile::broken_by` meets its contract: its numbers are those that stand in the container. Assumes nothing.
+use mathlib.Core.Path.{◌∙◌}
+use Rattle.profile.proofs.NumberLaws.{by_numbers}
 use Rattle.profile.proofs.broken_by.Goals as goal
-
-pub returns-then-read16-ne-HEADER : goal.returns-then-read16-ne-HEADER
-returns-then-read16-ne-HEADER c = c.broken.ensures ∙ header_broken _ _ _ _ _ c.read16.ensures.0 c.if-read16-ne-HEADER.true
-
-pub returns-then-read32-ne0 : goal.returns-then-read32-ne0
-returns-then-read32-ne0 c =
-    c.broken-then-read32-ne0.ensures ∙ block_broken _ _ _ _ _ c.read16.ensures.0 c.if-read16-ne-HEADER.false _ c.read32.ensures.0 c.if-read32-ne0.true
-
-pub returns-then-is_closed : goal.returns-then-is_closed
-returns-then-is_closed c =
-    c.broken-then-is_closed.ensures ∙ ap (broken _ 3) c.stream_number.ensures
-    ∙ closed-broken _ _ _ _ _ c.read16.ensures.0 c.if-read16-ne-HEADER.false _ c.read32.ensures.0 c.if-read32-ne0.false (sym c.is_closed.ensures ∙ c.if-is_closed.true)
-
-pub returns-then-is_known : goal.returns-then-is_known
-returns-then-is_known c =
-    c.none_broken.ensures
-    ∙ none_broken _ _ _ _ _ c.read16.ensures.0 c.if-read16-ne-HEADER.false _ c.read32.ensures.0 c.if-read32-ne0.false (sym c.is_closed.ensures ∙ c.if-is_closed.false) (sym c.is_known.ensures ∙ c.if-is_known.true)
 
 pub returns : goal.returns
 returns c =
-    c.broken-2.ensures
-    ∙ letters_broken _ _ _ _ _ c.read16.ensures.0 c.if-read16-ne-HEADER.false _ c.read32.ensures.0 c.if-read32-ne0.false (sym c.is_closed.ensures ∙ c.if-is_closed.false) (sym c.is_known.ensures ∙ c.if-is_known.false)
+    rw (c.read16-header.ensures.0, c.read32-block.ensures.0) at c.broken_in.ensures ∙ by_numbers _ _ _ _

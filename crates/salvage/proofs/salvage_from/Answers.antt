@@ -4,12 +4,12 @@ use Rattle.reading.specs.Choices.{applied_to}
 use Rattle.salvage.proofs.SalvageLaws.{kept_cut, kept_whole}
 use Rattle.salvage.proofs.salvage_from.Goals as goal
 
-pub returns-in-Whole : goal.returns-in-Whole
-returns-in-Whole c =
+pub returns-in-None : goal.returns-in-None
+returns-in-None c =
     let applied = c.applied_to-applied.ensures ∙ ap (applied_to c.args.header.audio) c.how.ensures in
-    kept_whole _ _ c.requires (rw (← applied) (sym c.last_fit.ensures ∙ c.in-Whole.is))
+    kept_whole _ _ c.requires (rw (← applied) (sym c.last_fit.ensures ∙ c.in-None.is))
 
-pub returns-in-UpTo : goal.returns-in-UpTo
-returns-in-UpTo c =
+pub returns-in-Some : goal.returns-in-Some
+returns-in-Some c =
     let applied = c.applied_to-applied.ensures ∙ ap (applied_to c.args.header.audio) c.how.ensures in
-    rw c.cut_at.ensures (kept_cut _ _ c.requires c.in-UpTo.place c.in-UpTo.refusal (rw (← applied) (sym c.last_fit.ensures ∙ c.in-UpTo.is)))
+    rw c.cut_at.ensures (kept_cut _ _ c.requires c.in-Some.cut (rw (← applied) (sym c.last_fit.ensures ∙ c.in-Some.is)))

@@ -15,19 +15,19 @@ returns-then-are_bad c =
     let args = c.args in
     bad_tenants args.container.now args.tenants.now args.lines.now _ (omega arith) (sym c.are_bad.ensures ∙ c.if-are_bad.true) c.refused-then-are_bad.ensures
 
-pub overflow_add-video : goal.overflow_add-video
-overflow_add-video c =
-    let e = sym (rw c.as_original.ensures at c.survey.ensures) ∙ c.in-Film.is in
+pub overflow_add-survey : goal.overflow_add-survey
+overflow_add-survey c =
+    let e = sym (rw c.as_original.ensures at c.survey.ensures) ∙ c.in-Ok.is in
     omega (arith, SizesFitTheContainer _ _ _ _ _ _ _ e, c.well_formed)
 
-pub returns-in-Film : goal.returns-in-Film
-returns-in-Film c =
-    let e = sym (rw c.as_original.ensures at c.survey.ensures) ∙ c.in-Film.is in
+pub returns : goal.returns
+returns c =
+    let e = sym (rw c.as_original.ensures at c.survey.ensures) ∙ c.in-Ok.is in
     let args = c.args in
     film_known args.container.now args.tenants.now args.lines.now _ (omega arith) (sym c.are_bad.ensures ∙ c.if-are_bad.false) _ _ _ _ _ e _ c.is_adx-adx.ensures _ c.bits_from-bits.ensures _ c.state_by.ensures
 
-pub returns-in-Refused : goal.returns-in-Refused
-returns-in-Refused c =
-    let e = sym (rw c.as_original.ensures at c.survey.ensures) ∙ c.in-Refused.is in
+pub returns-in-Err : goal.returns-in-Err
+returns-in-Err c =
+    let e = sym (rw c.as_original.ensures at c.survey.ensures) ∙ c.in-Err.is in
     let args = c.args in
     film_refused args.container.now args.tenants.now args.lines.now _ (omega arith) (sym c.are_bad.ensures ∙ c.if-are_bad.false) _ e c.list_reply.ensures

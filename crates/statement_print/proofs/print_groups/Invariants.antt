@@ -1,9 +1,6 @@
--- `statement_print::print_groups` is safe and ends: the lines left get fewer. Assumes nothing.
-use Rattle.std.proofs.Common.{◌-◌, ◌≤◌, length}
+-- `statement_print::print_groups` is safe: it has not counted more groups than lines. Assumes nothing.
+use Rattle.std.proofs.Common.{◌≤◌}
 use Rattle.statement_print.proofs.print_groups.Given as goal
 
-abbrev pub invariant-loop-i : goal.invariant-loop-i
-invariant-loop-i l = l.i ≤ length l.lines
-
-abbrev pub decreases-loop-i : goal.decreases-loop-i
-decreases-loop-i l = length l.lines - l.i
+abbrev pub invariant-loop-tenant : goal.invariant-loop-tenant
+invariant-loop-tenant l = l.groups ≤ l.tenant-index

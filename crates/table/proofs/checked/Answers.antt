@@ -7,14 +7,14 @@ use Rattle.table.specs.Walks.{walk_of}
 use Rattle.table.specs.Tables.{table_to}
 use Rattle.table.proofs.checked.Goals as goal
 
-pub returns-in-Done : goal.returns-in-Done
-returns-in-Done c =
+pub returns-in-Ok : goal.returns-in-Ok
+returns-in-Ok c =
     let a = c.args in
-    let walked = sym (c.walk_table.ensures ∙ ap (λ (b : List ℕ). walk_of b a.layout) (body_cut a.table.now a.layout)) ∙ c.in-Done.is in
+    let walked = sym (c.walk_table.ensures ∙ ap (λ (b : List ℕ). walk_of b a.layout) (body_cut a.table.now a.layout)) ∙ c.in-Ok.is in
     sym (ap (table_to a.place a.layout) walked)
 
-pub returns-in-Stopped : goal.returns-in-Stopped
-returns-in-Stopped c =
+pub returns-in-Err : goal.returns-in-Err
+returns-in-Err c =
     let a = c.args in
-    let walked = sym (c.walk_table.ensures ∙ ap (λ (b : List ℕ). walk_of b a.layout) (body_cut a.table.now a.layout)) ∙ c.in-Stopped.is in
+    let walked = sym (c.walk_table.ensures ∙ ap (λ (b : List ℕ). walk_of b a.layout) (body_cut a.table.now a.layout)) ∙ c.in-Err.is in
     c.refused.ensures ∙ sym (ap (table_to a.place a.layout) walked)

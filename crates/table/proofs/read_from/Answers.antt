@@ -7,15 +7,15 @@ use Rattle.table.proofs.read_from.Goals as goal
 pub checked-requires : goal.checked-requires
 checked-requires c =
     let a = c.args in
-    let s = sound a.table.now a.mode c.in-Laid.layout (sym c.read_layout.ensures ∙ c.in-Laid.is) in
+    let s = sound a.table.now a.mode c.in-Ok.layout (sym c.read_layout.ensures ∙ c.in-Ok.is) in
     (s.0, s.3)
 
-pub returns-in-Laid : goal.returns-in-Laid
-returns-in-Laid c =
+pub returns-in-Ok : goal.returns-in-Ok
+returns-in-Ok c =
     let a = c.args in
-    c.checked.ensures ∙ walked a.place a.table.now a.mode c.in-Laid.layout (sym c.read_layout.ensures ∙ c.in-Laid.is)
+    c.checked.ensures ∙ walked a.place a.table.now a.mode c.in-Ok.layout (sym c.read_layout.ensures ∙ c.in-Ok.is)
 
-pub returns-in-NoLayout : goal.returns-in-NoLayout
-returns-in-NoLayout c =
+pub returns-in-Err : goal.returns-in-Err
+returns-in-Err c =
     let a = c.args in
-    c.refused.ensures ∙ unlaid a.place a.table.now a.mode c.in-NoLayout.cause (sym c.read_layout.ensures ∙ c.in-NoLayout.is)
+    c.refused.ensures ∙ unlaid a.place a.table.now a.mode c.in-Err.cause (sym c.read_layout.ensures ∙ c.in-Err.is)

@@ -1,14 +1,23 @@
 -- `table::walk_table` meets its contract: the columns come first, then the rows. Assumes nothing.
-use mathlib.Core.Path.{sym, ◌∙◌}
+use Rattle.std.proofs.Common.{List, ℕ, sym, ap₂, ◌∙◌}
+use Rattle.std.proofs.lemmas.Result.{err_from_is_err_and}
+use Rattle.layout.specs.declared.Layout.{Layout}
+use Rattle.table.specs.Walks.{columns_from, rows_from}
 use Rattle.table.proofs.WalkLaws.{table_rows, table_stop}
 use Rattle.table.proofs.walk_table.Goals as goal
 
-pub returns-in-Done : goal.returns-in-Done
-returns-in-Done c =
+pub returns : goal.returns
+returns c =
     let a = c.args in
-    c.walk_rows.ensures ∙ sym (table_rows a.body.now a.layout c.in-Done.field-0 (sym c.walk_columns.ensures ∙ c.in-Done.is))
+    let n = c.new-walk.ensures in
+    c.check_rows.ensures ∙ ap₂ (λ (b : List ℕ) (l : Layout). rows_from b l l.rows l.start) n.0 n.1
+    ∙ sym (table_rows a.body.now a.layout c.in_ok-check_columns.field-0
+    (sym (c.check_columns.ensures ∙ ap₂ (λ (b : List ℕ) (l : Layout). columns_from b l l.columns 0) n.0 n.1) ∙ c.in_ok-check_columns.was))
 
-pub returns-in-Stopped : goal.returns-in-Stopped
-returns-in-Stopped c =
+pub returns-in_err-check_columns : goal.returns-in_err-check_columns
+returns-in_err-check_columns c =
     let a = c.args in
-    sym (table_stop a.body.now a.layout c.in-Stopped.cause (sym c.walk_columns.ensures ∙ c.in-Stopped.is))
+    let n = c.new-walk.ensures in
+    let p = err_from_is_err_and c.from_residual.result c.from_residual.ensures.1 in rw (p.1, p.2)
+    (sym (table_stop a.body.now a.layout _
+    (sym (c.check_columns.ensures ∙ ap₂ (λ (b : List ℕ) (l : Layout). columns_from b l l.columns 0) n.0 n.1) ∙ c.in_err-check_columns.was)))

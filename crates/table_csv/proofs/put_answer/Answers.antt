@@ -4,10 +4,10 @@ use Rattle.table_csv.proofs.CellPutLaws.{refused_field}
 use Rattle.table_csv.proofs.put_answer.Goals as goal
 
 pub put_cell-requires : goal.put_cell-requires
-put_cell-requires c = rw c.in-Got.is at c.requires
+put_cell-requires c = rw c.in-Ok.is at c.requires
 
-pub returns-in-Got : goal.returns-in-Got
-returns-in-Got c = rw c.in-Got.is c.put_cell.ensures
+pub returns-in-Ok : goal.returns-in-Ok
+returns-in-Ok c = rw c.in-Ok.is c.put_cell.ensures
 
-pub returns-in-Refused : goal.returns-in-Refused
-returns-in-Refused c = rw c.in-Refused.is (put_as (put_none _ _) refused_field)
+pub returns-in-Err : goal.returns-in-Err
+returns-in-Err c = rw c.in-Err.is (put_as (put_none _ _) refused_field)

@@ -1,5 +1,8 @@
--- `tenants::members` meets its contract, by the count. Assumes nothing.
+-- The chain counts as `counted` does. Assumes nothing.
+use Rattle.std.proofs.Common.{rules}
+use Rattle.std.proofs.iter.runs.Made.{chains}
+use Rattle.tenants.proofs.ChainLaws.{counted_is}
 use Rattle.tenants.proofs.members.Goals as goal
 
 pub returns : goal.returns
-returns c = c.count.ensures.value
+returns c = rw counted_is (search (rules, chains))

@@ -1,6 +1,5 @@
 -- `text::put_decimal` meets its contract: the digits that `io::decimal` gives are those of `decimal`. Assumes nothing.
-use mathlib.Core.Path.{◌∙◌}
-use native.Mathlib.Omega.{arith}
+use Rattle.std.proofs.Common.{◌∙◌, arith}
 use Rattle.text.proofs.NumberLaws.{decimal_digits}
 use Rattle.text.proofs.put_decimal.Goals as goal
 

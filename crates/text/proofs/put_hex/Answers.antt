@@ -1,6 +1,5 @@
 -- `text::put_hex` meets its contract: the digits that `io::hex` gives are those of `hex`. Assumes nothing.
-use mathlib.Core.Path.{◌∙◌}
-use native.Mathlib.Omega.{arith}
+use Rattle.std.proofs.Common.{◌∙◌, arith}
 use Rattle.text.proofs.NumberLaws.{hex_digits}
 use Rattle.text.proofs.put_hex.Goals as goal
 

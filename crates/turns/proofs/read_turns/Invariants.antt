@@ -5,8 +5,8 @@ use lib.ListN.{length}
 use Rattle.turns.proofs.TurnLaws.{TurnsLeft}
 use Rattle.turns.proofs.read_turns.Given as goal
 
-abbrev pub invariant-loop-form : goal.invariant-loop-form
-invariant-loop-form l = TurnsLeft l.form l.audio l.bytes l.place l.from l.seen l.heard l.video l.sound l.marked
+abbrev pub invariant-loop-seen : goal.invariant-loop-seen
+invariant-loop-seen l = TurnsLeft l.form l.audio l.bytes l.place l.from l.seen l.heard l.video l.sound l.marked
 
-abbrev pub decreases-loop-form : goal.decreases-loop-form
-decreases-loop-form l = 2 * (length l.bytes - l.place) + cond (l.seen || l.heard) 1 0
+abbrev pub decreases-loop-seen : goal.decreases-loop-seen
+decreases-loop-seen l = 2 * (length l.bytes - l.place) + cond (l.seen || l.heard) 1 0

@@ -9,4 +9,4 @@ pub returns : goal.returns
 returns c =
     let a = c.args in
     let middle = c.chunk_size-middle.result in
-    turn_answers a.form a.from a.seen a.heard a.bytes.now (take (length a.bytes.now - middle) (drop middle a.bytes.now)) c.payload_in-video.result c.payload_in-audio.result middle _ _ c.payload_in-video.ensures c.chunk_size-middle.ensures refl c.payload_in-audio.ensures c.chunk_size-last.ensures c.either.ensures
+    turn_answers a.form a.from a.seen a.heard a.bytes.now (take (length a.bytes.now - middle) (drop middle a.bytes.now)) c.payload_in-video.result c.payload_in-audio.result middle _ _ c.payload_in-video.ensures c.chunk_size-middle.ensures refl c.payload_in-audio.ensures c.chunk_size-last.ensures refl

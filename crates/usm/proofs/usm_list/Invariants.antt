@@ -9,6 +9,3 @@ invariant-loop-filled l =
     × (l.plan.records ≤ length l.initial.list)
     × (length l.list ≡ length l.initial.list)
     × (fill_for l.container l.plan.reading (l.plan.records - l.filled) l.place l.filled l.list ≡ fill_by l.container l.plan l.initial.list)
-
-abbrev pub decreases-loop-filled : goal.decreases-loop-filled
-decreases-loop-filled l = l.plan.records - l.filled

@@ -8,16 +8,16 @@ use Rattle.write.proofs.put_codec.Goals as goal
 
 pub put_table_block-requires : goal.put_table_block-requires
 put_table_block-requires c =
-    (rw (codec_block_lem c.args.letters c.args.column.now c.args.codec _ _ c.bytes32-cell.ensures c.in-Value.is) c.requires.0, c.requires.1, omega (arith, ap length c.bytes32-cell.ensures), omega arith)
+    (rw (codec_block_lem c.args.letters c.args.column.now c.args.codec _ _ c.bytes32-cell.ensures c.in-Some.is) c.requires.0, c.requires.1, omega (arith, ap length c.bytes32-cell.ensures), omega arith)
 
 pub put_block-requires : goal.put_block-requires
 put_block-requires c =
-    (rw (absent_block c.args.letters c.args.column.now c.args.codec c.in-Absent.is) c.requires.0, omega arith)
+    (rw (absent_block c.args.letters c.args.column.now c.args.codec c.in-None.is) c.requires.0, omega arith)
 
-pub returns-in-Value : goal.returns-in-Value
-returns-in-Value c =
-    put_as c.put_table_block.ensures (codec_block_lem c.args.letters c.args.column.now c.args.codec _ _ c.bytes32-cell.ensures c.in-Value.is)
+pub returns-in-Some : goal.returns-in-Some
+returns-in-Some c =
+    put_as c.put_table_block.ensures (codec_block_lem c.args.letters c.args.column.now c.args.codec _ _ c.bytes32-cell.ensures c.in-Some.is)
 
-pub returns-in-Absent : goal.returns-in-Absent
-returns-in-Absent c =
-    put_as c.put_block.ensures (absent_block c.args.letters c.args.column.now c.args.codec c.in-Absent.is)
+pub returns-in-None : goal.returns-in-None
+returns-in-None c =
+    put_as c.put_block.ensures (absent_block c.args.letters c.args.column.now c.args.codec c.in-None.is)

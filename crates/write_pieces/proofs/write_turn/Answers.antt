@@ -3,10 +3,10 @@ use mathlib.Core.Path.{sym, ◌∙◌}
 use Rattle.write_pieces.proofs.TurnLaws.{turn_over, turn_next}
 use Rattle.write_pieces.proofs.write_turn.Goals as goal
 
-pub returns-in-Over : goal.returns-in-Over
-returns-in-Over c =
-    turn_over c.args.packing _ _ _ (sym (rw c.audio_size-audio.ensures at c.turn_in.ensures) ∙ c.in-Over.is) c.over.ensures
+pub returns-in-None : goal.returns-in-None
+returns-in-None c =
+    turn_over c.args.packing _ _ _ (sym (rw c.audio_size-audio.ensures at c.turn_in.ensures) ∙ c.in-None.is) c.over.ensures
 
-pub returns-in-Next : goal.returns-in-Next
-returns-in-Next c =
-    turn_next c.args.packing _ _ _ _ _ _ (sym (rw c.audio_size-audio.ensures at c.turn_in.ensures) ∙ c.in-Next.is) c.write_head-written.ensures c.piece_reply.ensures
+pub returns-in-Some : goal.returns-in-Some
+returns-in-Some c =
+    turn_next c.args.packing _ _ _ _ _ _ (sym (rw c.audio_size-audio.ensures at c.turn_in.ensures) ∙ c.in-Some.is) c.write_head-written.ensures c.piece_reply.ensures

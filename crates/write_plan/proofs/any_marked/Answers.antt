@@ -1,44 +1,33 @@
--- `write_plan::any_marked` meets its contract: the payloads from here on have the answer of all. Assumes nothing.
-use Prim.Native.Nat.{◌-◌}
-use mathlib.Core.Path.{refl, sym, ap, ◌∙◌}
-use native.Mathlib.Omega.{arith}
-use mathlib.Core.List.{List}
-use Prim.Native.Nat.{ℕ}
-use lib.ListN.{drop, length-drop}
-use lib.Seq.{drop-drop}
+-- `write_plan::any_marked` meets its contract: the payloads that are left have the answer of all. Assumes nothing.
+use Rattle.std.proofs.Common.{List, ℕ, sym, ap, ◌∙◌}
+use Rattle.std.specs.Slice.Iter.{chunks_rest, chunks_size}
 use Rattle.write_plan.specs.Payloads.{payloads_of}
 use Rattle.write_plan.specs.Planning.{any_marked}
-use Rattle.write_plan.proofs.PlanLaws.{marked_here, unmarked_more, unmarked_last}
+use Rattle.write_plan.proofs.PlanLaws.{marked_here, unmarked_more, unmarked_none, piece_is}
 use Rattle.write_plan.proofs.any_marked.Goals as goal
-
-pub loop-from-init : goal.loop-from-init
-loop-from-init c = (omega arith, refl)
 
 pub returns-then-stands_at : goal.returns-then-stands_at
 returns-then-stands_at c =
-    let s = c.args.stream.now in
-    let l = c.loop-from in
-    sym (sym l.invariant.1 ∙ marked_here (drop l.from s) (rw c.payload_from.ensures.2 at (sym c.stands_at.ensures ∙ c.if-stands_at.true)))
+    let l = c.loop-payload in
+    let left = chunks_rest l.payload-iterator in
+    let steps = c.in-Some.ensures.steps in
+    let p = piece_is (chunks_size l.payload-iterator) left c.in-Some.payload.now (chunks_rest c.next.new.self) l.invariant.size steps.1.0 steps.1.1 in
+    sym (sym l.invariant.left ∙ marked_here left (rw p.0 (sym c.stands_at.ensures ∙ c.if-stands_at.true)))
 
-pub returns-then-stream-from-le-PAYLOAD : goal.returns-then-stream-from-le-PAYLOAD
-returns-then-stream-from-le-PAYLOAD c =
-    let s = c.args.stream.now in
-    let l = c.loop-from in
-    sym
-    (sym l.invariant.1
-    ∙ unmarked_last (drop l.from s) (rw c.payload_from.ensures.2 at (sym c.stands_at.ensures ∙ c.if-stands_at.false)) (rw length-drop c.if-stream-from-le-PAYLOAD.true))
+pub loop-payload-preserved : goal.loop-payload-preserved
+loop-payload-preserved c =
+    let l = c.loop-payload in
+    let left = chunks_rest l.payload-iterator in
+    let steps = c.in-Some.ensures.steps in
+    let p = piece_is (chunks_size l.payload-iterator) left c.in-Some.payload.now (chunks_rest c.next.new.self) l.invariant.size steps.1.0 steps.1.1 in
+    record {
+      size = steps.0 ∙ l.invariant.size;
+      left =
+          ap (λ (r : List ℕ). any_marked (payloads_of r)) (sym p.1)
+          ∙ sym (unmarked_more left (rw p.0 (sym c.stands_at.ensures ∙ c.if-stands_at.false))) ∙ l.invariant.left;
+    }
 
-pub overflow_add-from : goal.overflow_add-from
-overflow_add-from c = omega arith
-
-pub loop-from-smaller : goal.loop-from-smaller
-loop-from-smaller c = omega arith
-
-pub loop-from-preserved : goal.loop-from-preserved
-loop-from-preserved c =
-    let s = c.args.stream.now in
-    let l = c.loop-from in (
-      omega arith,
-      ap (λ (r : List ℕ). any_marked (payloads_of r)) (sym (drop-drop 0x10000 l.from s))
-          ∙ sym (unmarked_more (drop l.from s) (rw c.payload_from.ensures.2 at (sym c.stands_at.ensures ∙ c.if-stands_at.false))) ∙ l.invariant.1,
-    )
+pub returns : goal.returns
+returns c =
+    let l = c.loop-payload in
+    sym (sym l.invariant.left ∙ unmarked_none (chunks_rest l.payload-iterator) c.in-None.ensures.steps.1.0)

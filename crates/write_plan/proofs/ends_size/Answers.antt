@@ -7,5 +7,5 @@ use Rattle.write_plan.proofs.ends_size.Goals as goal
 pub returns-then-audio : goal.returns-then-audio
 returns-then-audio c = sym (ends_length c.args.audio ∙ ap ends_size c.if-audio.true)
 
-pub returns : goal.returns
-returns c = sym (ends_length c.args.audio ∙ ap ends_size c.if-audio.false)
+pub returns-else-audio : goal.returns-else-audio
+returns-else-audio c = sym (ends_length c.args.audio ∙ ap ends_size c.if-audio.false)

@@ -9,12 +9,12 @@ returns-then-container-gt-LONGEST c =
 
 pub move_back-requires : goal.move_back-requires
 move_back-requires c =
-    let film = is_film_lem c.args.container.now _ (sym c.find.ensures ∙ c.in-Film.is) in
+    let film = is_film_lem c.args.container.now _ (sym c.find.ensures ∙ c.in-Some.is) in
     (c.if-container-gt-LONGEST.false, film.0, film.1)
 
-pub returns-in-Film : goal.returns-in-Film
-returns-in-Film c = c.move_back.ensures
+pub returns-in-Some : goal.returns-in-Some
+returns-in-Some c = c.move_back.ensures
 
-pub returns-in-Foreign : goal.returns-in-Foreign
-returns-in-Foreign c =
-    to_foreign c.args.container.now c.args.out.now _ c.if-container-gt-LONGEST.false (sym c.find.ensures ∙ c.in-Foreign.is) c.refused-in-Foreign.ensures
+pub returns-in-None : goal.returns-in-None
+returns-in-None c =
+    to_foreign c.args.container.now c.args.out.now _ c.if-container-gt-LONGEST.false (sym c.find.ensures ∙ c.in-None.is) c.refused-in-None.ensures

@@ -11,14 +11,14 @@ returns-then-container-gt-LONGEST c =
 
 pub move_film-requires : goal.move_film-requires
 move_film-requires c =
-    (c.if-container-gt-LONGEST.false, (is_film_lem c.args.container.now _ (sym c.find.ensures ∙ c.in-Film.is)).1, ap (λ (p : Packing). p.key) c.packing_of-packing.ensures)
+    (c.if-container-gt-LONGEST.false, (is_film_lem c.args.container.now _ (sym c.find.ensures ∙ c.in-Some.is)).1, ap (λ (p : Packing). p.key) c.packing_of-packing.ensures)
 
-pub returns-in-Film : goal.returns-in-Film
-returns-in-Film c =
+pub returns-in-Some : goal.returns-in-Some
+returns-in-Some c =
     from_film c.args.container.now c.args.mpeg_codec c.args.audio_codec c.args.out.now _ _ _ _ c.if-container-gt-LONGEST.false
-    (sym c.find.ensures ∙ c.in-Film.is) c.packing_of-packing.ensures c.move_film.ensures
+    (sym c.find.ensures ∙ c.in-Some.is) c.packing_of-packing.ensures c.move_film.ensures
 
-pub returns-in-Foreign : goal.returns-in-Foreign
-returns-in-Foreign c =
+pub returns-in-None : goal.returns-in-None
+returns-in-None c =
     from_foreign c.args.container.now c.args.mpeg_codec c.args.audio_codec c.args.out.now _ c.if-container-gt-LONGEST.false
-    (sym c.find.ensures ∙ c.in-Foreign.is) (c.refused-in-Foreign.ensures ∙ ap refused_by c.cause_of.ensures)
+    (sym c.find.ensures ∙ c.in-None.is) (c.refused-in-None.ensures ∙ ap refused_by c.cause_of.ensures)

@@ -5,8 +5,8 @@ use lib.ListN.{length}
 use Rattle.film_move.proofs.PutLaws.{MoveLeft}
 use Rattle.film_move.proofs.putting.move_turns.Given as goal
 
-abbrev pub invariant-loop-old : goal.invariant-loop-old
-invariant-loop-old l = MoveLeft l.old l.new l.audio l.bytes l.initial.out l.start l.out l.at l.place l.from l.seen l.heard
+abbrev pub invariant-loop-seen : goal.invariant-loop-seen
+invariant-loop-seen l = MoveLeft l.old l.new l.audio l.bytes l.initial.out l.start l.out l.at l.place l.from l.seen l.heard
 
-abbrev pub decreases-loop-old : goal.decreases-loop-old
-decreases-loop-old l = 2 * (length l.bytes - l.place) + cond (l.seen || l.heard) 1 0
+abbrev pub decreases-loop-seen : goal.decreases-loop-seen
+decreases-loop-seen l = 2 * (length l.bytes - l.place) + cond (l.seen || l.heard) 1 0

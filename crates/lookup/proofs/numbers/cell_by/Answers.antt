@@ -7,19 +7,19 @@ use Rattle.lookup.proofs.numbers.cell_by.Goals as goal
 pub returns-then-bytes-place : goal.returns-then-bytes-place
 returns-then-bytes-place c =
     let a = c.args in
-    past_the_end a.bytes.now a.place a.mode a.line a.number (omega arith)
+    c.refused.ensures ∙ past_the_end a.bytes.now a.place a.mode a.line a.number (omega arith)
 
 pub cell_in_table-requires : goal.cell_in_table-requires
 cell_in_table-requires c =
     let a = c.args in
-    fits a.bytes.now a.place a.mode (omega arith) _ (sym c.read_layout.ensures ∙ c.in-Laid.is)
+    fits a.bytes.now a.place a.mode (omega arith) _ (sym c.read_layout.ensures ∙ c.in-Ok.is)
 
-pub returns-in-Laid : goal.returns-in-Laid
-returns-in-Laid c =
+pub returns-in-Ok : goal.returns-in-Ok
+returns-in-Ok c =
     let a = c.args in
-    c.cell_in_table.ensures ∙ laid a.bytes.now a.place a.mode (omega arith) _ (sym c.read_layout.ensures ∙ c.in-Laid.is) a.line a.number
+    c.cell_in_table.ensures ∙ laid a.bytes.now a.place a.mode (omega arith) _ (sym c.read_layout.ensures ∙ c.in-Ok.is) a.line a.number
 
-pub returns-in-NoLayout : goal.returns-in-NoLayout
-returns-in-NoLayout c =
+pub returns-in-Err : goal.returns-in-Err
+returns-in-Err c =
     let a = c.args in
-    unlaid a.bytes.now a.place a.mode (omega arith) _ (sym c.read_layout.ensures ∙ c.in-NoLayout.is) a.line a.number
+    c.refused-in-Err.ensures ∙ unlaid a.bytes.now a.place a.mode (omega arith) _ (sym c.read_layout.ensures ∙ c.in-Err.is) a.line a.number

@@ -12,15 +12,15 @@ returns-then-bytes-place c =
 pub tag_in_table-requires : goal.tag_in_table-requires
 tag_in_table-requires c =
     let a = c.args in
-    let held = fits a.bytes.now a.place a.mode (omega arith) _ (sym c.read_layout.ensures ∙ c.in-Laid.is) in
+    let held = fits a.bytes.now a.place a.mode (omega arith) _ (sym c.read_layout.ensures ∙ c.in-Ok.is) in
     (held.0.0, held.1)
 
-pub returns-in-Laid : goal.returns-in-Laid
-returns-in-Laid c =
+pub returns-in-Ok : goal.returns-in-Ok
+returns-in-Ok c =
     let a = c.args in
-    c.tag_in_table.ensures ∙ tag-laid a.bytes.now a.place a.mode (omega arith) _ (sym c.read_layout.ensures ∙ c.in-Laid.is) a.number
+    c.tag_in_table.ensures ∙ tag-laid a.bytes.now a.place a.mode (omega arith) _ (sym c.read_layout.ensures ∙ c.in-Ok.is) a.number
 
-pub returns-in-NoLayout : goal.returns-in-NoLayout
-returns-in-NoLayout c =
+pub returns-in-Err : goal.returns-in-Err
+returns-in-Err c =
     let a = c.args in
-    tag-unlaid a.bytes.now a.place a.mode (omega arith) _ (sym c.read_layout.ensures ∙ c.in-NoLayout.is) a.number
+    tag-unlaid a.bytes.now a.place a.mode (omega arith) _ (sym c.read_layout.ensures ∙ c.in-Err.is) a.number

@@ -1,6 +1,5 @@
 -- `print_line::Line::decimal` meets its contract: the digits are put as a word. Assumes nothing.
-use mathlib.Core.Path.{ap, ◌∙◌}
-use native.Mathlib.Omega.{arith}
+use Rattle.std.proofs.Common.{ap, ◌∙◌, arith}
 use Rattle.text.proofs.NumberLaws.{decimal_digits}
 use Rattle.print_line.specs.Lines.{with_piece}
 use Rattle.print_line.proofs.Line.decimal.Goals as goal

@@ -1,11 +1,11 @@
 -- `print_line::Line::hex_bytes` meets its contract: digits that fit are put after the line, two for each byte. Assumes nothing.
-use native.Mathlib.Omega.{arith}
+use Rattle.std.proofs.Common.{arith}
 use Rattle.text.specs.Numbers.{hex_bytes}
 use Rattle.print_line.proofs.PieceLaws.{left_out, put_after, hex_length}
 use Rattle.print_line.proofs.Line.hex_bytes.Goals as goal
 
-pub returns-then-room_after-part : goal.returns-then-room_after-part
-returns-then-room_after-part c =
+pub returns-then-saturating_sub-part : goal.returns-then-saturating_sub-part
+returns-then-saturating_sub-part c =
     let a = c.args in
     left_out a.self (hex_bytes a.part.now) (omega (arith, hex_length a.part.now))
 

@@ -1,10 +1,10 @@
 -- `print_line::Line::word` meets its contract: a word that fits is put after the line. Assumes nothing.
-use native.Mathlib.Omega.{arith}
+use Rattle.std.proofs.Common.{arith}
 use Rattle.print_line.proofs.PieceLaws.{left_out, put_after}
 use Rattle.print_line.proofs.Line.word.Goals as goal
 
-pub returns-then-room_after-word : goal.returns-then-room_after-word
-returns-then-room_after-word c =
+pub returns-then-saturating_sub-word : goal.returns-then-saturating_sub-word
+returns-then-saturating_sub-word c =
     let a = c.args in
     left_out a.self a.word.now (omega arith)
 
