@@ -354,14 +354,14 @@ struct reader {
 };
 
 static const struct reader READERS[] = {
-    {"usm_open", ask_open, 1592},
+    {"usm_open", ask_open, 1808},
     {"usm_step", ask_step, 104},
     {"usm_clear", ask_clear, 392},
-    {"usm_clear_piece, first", ask_first_piece, 504},
-    {"usm_clear_piece", ask_piece, 504},
-    {"usm_key_bits", ask_bits, 1528},
+    {"usm_clear_piece, first", ask_first_piece, 568},
+    {"usm_clear_piece", ask_piece, 568},
+    {"usm_key_bits", ask_bits, 1776},
     {"usm_payload_bits", ask_payload_bits, 8},
-    {"usm_apart", ask_apart, 1704},
+    {"usm_apart", ask_apart, 1984},
     {"usm_payload_apart", ask_payload_apart, 336},
     {"usm_why", ask_why, 8},
 };
