@@ -6,7 +6,7 @@ ghost use Rattle.std.specs.Prelude.{◌≤◌, length};
 
 use std::env::{Env, FillError};
 
-// So many bytes of a word are read: no key and no number is longer.
+// So many bytes of a word are read: no word that a program understands is longer.
 pub const ROOM: usize = 64;
 
 // How many words the program was called with, its own name among them.

@@ -34,7 +34,7 @@ pub enum Stream {
     AudioStream,
 }
 
-// What two keys make of one film: the same streams, or streams that differ first at a byte. The byte is counted from the stream's first;
+// Where the streams of a film first differ under two keys. The byte is counted from the first of its stream;
 // it stands in the chunk that starts at a byte of the container, at an offset of its payload.
 #[derive(Clone, Copy)]
 pub struct Parting {

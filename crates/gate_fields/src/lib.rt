@@ -1,7 +1,7 @@
 // The lines of a list and their fields: hex digits that stand for bytes, and decimal numbers.
 // No rule of this crate comes from the Rust: it serves the programs that replay recorded answers.
 // Where a contract has a second clause, it follows from the first and spares a caller the proof. No contract can say what is
-// read and written, so the functions that replay a list have none.
+// read and written, so the functions that replay a list ensure nothing.
 #![tactic(auto)]
 
 ghost use Rattle.std.specs.Prelude.{true, false, ◌≡◌, ◌≤◌, ◌<◌, IsTrue, MatchOption, length, drop};

@@ -119,8 +119,8 @@ fn follow(record: &[u8], counts: Counts, space: &mut [u8], tenants: &mut [[u64; 
     counts
 }
 
-// Does what each record of a list says. A record begins where a line does and has its bytes whatever the line's length is, which
-// no iterator of the library says, so a loop goes on to what is left of the list.
+// Does what each record of a list says. A record begins where a line does and has its bytes whatever the line's length is. No
+// iterator of the library gives such records, so a loop goes on to what is left of the list.
 fn replay(list: &[u8], space: &mut [u8], tenants: &mut [[u64; 2]]) {
     let mut counts = Counts {
         film: 0,

@@ -15,7 +15,7 @@ use header::Header;
 use reading::{Applied, AudioChoice, Reading};
 use refusal::{Cause, Refusal};
 
-// How much of a container is kept, how much is dropped, and the number of the refusal that caused the cut; or why none is kept.
+// How much of a container is kept, how much is dropped, and the number of the refusal that caused the cut.
 #[derive(Clone, Copy)]
 pub struct Kept {
     pub kept: usize,

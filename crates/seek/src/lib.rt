@@ -30,7 +30,7 @@ pub struct SeekReply {
 }
 
 // An entry of an index: where the payload begins in the stream, where its chunk starts, how long the payload is. It is three
-// numbers in a row, as C lays out `usm_index_entry`.
+// numbers in a row, which C sees as the struct `usm_index_entry`: the promises range over lists of such rows.
 pub fn entry(place: u64, chunk: u64, length: u64) -> [u64; 3]
     ensures { result ≡ entry_of place chunk length }
 {

@@ -1,6 +1,6 @@
 // Tenants who share one copy of a film, and what each has to bear of it. A tenant is lent as its number and its key. `bits` are the
 // bits of a key that the film shows: those whose keys agree in them have one copy.
-// A tenant stays an array of two: C lends tenants as arrays of two u64, and OneToSixteen and the promises of `statement` range over such lists.
+// A tenant stays an array of two, which C sees as a struct: OneToSixteen and the promises of `statement` range over lists of such pairs.
 // Request 13. Ours: the Rust has nothing of the kind.
 #![tactic(auto)]
 
@@ -64,7 +64,7 @@ fn lowest_of(tenants: &[[u64; 2]], bits: u64, key: u64, number: u64) -> u64
         .fold(number, |least, other| least.min(other))
 }
 
-// How many tenants have a number.
+// How many tenants have this number.
 fn times(tenants: &[[u64; 2]], number: u64) -> usize
     ensures { result ≡ counted (has_number number) tenants.now }
 {
