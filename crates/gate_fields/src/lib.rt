@@ -35,15 +35,24 @@ pub fn ends_in_line(list: &[u8]) -> bool
 }
 
 // Hands each line of a list to `take`, without its LF, up to the first that it does not take, and answers whether it took
-// all of them: never where LF does not end the list.
-pub fn takes_lines<F: FnMut(&[u8]) -> bool>(list: &[u8], take: F) -> bool
+// all of them: never where LF does not end the list. A loop, since `next_line` says where a line ends, and `split` would cut by a
+// closure of which no contract here speaks.
+pub fn takes_lines<F: FnMut(&[u8]) -> bool>(list: &[u8], mut take: F) -> bool
     requires { F.IsAlwaysCallable take }
     ensures { IsTrue result → IsTrue (ends_in_line list.now) }
 {
-    let Some(lines) = list.strip_suffix(b"\n") else {
+    if !ends_in_line(list) {
         return false;
-    };
-    lines.split(|byte| *byte == b'\n').all(take)
+    }
+    let mut at = 0;
+    while at < list.len() {
+        let next = next_line(list, at);
+        if !take(&list[at..next - 1]) {
+            return false;
+        }
+        at = next;
+    }
+    true
 }
 
 // Replays the list on standard input, as far as there is room for it: hands its lines to `take`, and writes `refusal` where it
