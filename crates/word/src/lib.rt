@@ -25,14 +25,17 @@ fn rest_at(bytes: &[u8], place: usize) -> &[u8]
     bytes.get(place..).unwrap_or(&[])
 }
 
-// Fewer bytes than N, and zeros after them. Cold, so that a read of bytes that are there takes up no stack.
+// Fewer bytes than N, and zeros after them. Out of line, so that a read of bytes that are there takes up no stack; and byte by byte,
+// since a copy of so many is a call of `memcpy`.
 #[cold]
+#[inline(never)]
 fn with_zeros<const N: usize>(bytes: &[u8]) -> [u8; N]
-    requires { length bytes.now < N }
     ensures { (k : ℕ) → k < N → slice_index result k ≡ at bytes.now k }
 {
-    let mut padded = [0u8; N];
-    padded[..bytes.len()].copy_from_slice(bytes);
+    let mut padded = [0; N];
+    for k in 0..N {
+        padded[k] = read8(bytes, k) as u8;
+    }
     padded
 }
 
