@@ -44,9 +44,11 @@ fn difference_mark(first: u64, second: u64, place: usize) -> u8 {
 fn print_row<F: Fn(usize) -> u8>(mark: F)
     requires { F.IsAlwaysCallable mark }
 {
-    for place in 0..typed::PLACES {
-        print(&[mark(place)]);
+    let mut marks = [b' '; typed::PLACES];
+    for (place, byte) in marks.iter_mut().enumerate() {
+        *byte = mark(place);
     }
+    print(&marks);
 }
 
 // Prints both keys, which of their digits count, and where they differ.
@@ -110,9 +112,11 @@ fn shown(byte: u8) -> u8 {
 
 // Prints the start of a word, whatever its bytes are.
 fn print_start(word: &[u8]) {
-    for byte in word.iter().take(SHOWN) {
-        print(&[shown(*byte)]);
+    let mut text = [b' '; SHOWN];
+    for (place, byte) in text.iter_mut().zip(word) {
+        *place = shown(*byte);
     }
+    print(&text[..word.len().min(SHOWN)]);
 }
 
 // Prints a word on one line: its start, and `...` for the rest.
