@@ -1,4 +1,5 @@
 pub mod ChainLaws
+pub mod LoopLaws
 pub mod PortionLaws
 pub mod CountLaws
 pub mod RisingLaws

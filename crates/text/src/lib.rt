@@ -9,11 +9,12 @@ ghost use Rattle.io.specs.Digits.{hex_digit_ascii};
 ghost use Rattle.text.specs.Numbers.{decimal, hex, hex_bytes};
 ghost use Rattle.laws.specs.Outputs.{Put};
 
-// Puts the byte that is `i` bytes after a place, if the output has that.
+// Puts the byte that is `i` bytes after a place, if the output has that. Its first test is the same for all bytes of a text, so
+// that the compiler asks it once, and an output that ends before the text is measured without a loop over its bytes.
 fn put_byte(out: &mut [u8], place: usize, i: usize, byte: u8)
     ensures { out.new ≡ set out.old (place + i) byte }
 {
-    if i < out.len().saturating_sub(place) {
+    if place < out.len() && i < out.len() - place {
         out[place + i] = byte;
     }
 }
