@@ -458,7 +458,7 @@ struct usm_open_reply {
 /*
  * What a film of `total` bytes is, by its first `len` bytes: the header, or the film's refusal, or that
  * more bytes are needed. A beginning never contradicts the whole film, and the whole film never needs
- * more (proved). Pass some KiB first, then twice as many. It needs 1,944 bytes of stack below its call.
+ * more (proved). Pass some KiB first, then twice as many. It needs 1,520 bytes of stack below its call.
  */
 struct usm_open_reply usm_open(const uint8_t *beginning, size_t len, size_t total,
                                struct usm_reading reading);
@@ -530,7 +530,7 @@ struct usm_step_reply {
 /*
  * What stands at byte `place` of a film of `total` bytes, by the `len` bytes at `window`, which stand
  * there: 45 of them, or all that are left, always suffice (proved). `audio` is what the header says.
- * Of the numbers it gives USM_TOO_LONG and those of a chunk: 1, 9 and 17. It needs 104 bytes of stack
+ * Of the numbers it gives USM_TOO_LONG and those of a chunk: 1, 9 and 17. It needs 88 bytes of stack
  * below its call.
  */
 struct usm_step_reply usm_step(const uint8_t *window, size_t len, size_t place, size_t total,
@@ -563,7 +563,7 @@ void usm_clear(uint64_t key, uint8_t mask, uint8_t *payload, size_t len);
  * A piece begins at byte 0, or, after a row, at a multiple of USM_ROW_BYTES from USM_FIRST_PIECE on; it ends with
  * the payload, or at such a multiple. The reply is 1 then, and the piece is clear. Other bytes are no piece: the
  * reply is 0, and they are unchanged. However a payload is cut, where no reply is 0 the clear pieces one after
- * the other are what usm_clear leaves of the whole payload (proved). It needs at most 568 bytes of stack below
+ * the other are what usm_clear leaves of the whole payload (proved). It needs at most 472 bytes of stack below
  * its call.
  */
 uint8_t usm_clear_piece(uint64_t key, uint8_t mask, size_t total, size_t place, const uint8_t *row, size_t row_len,
@@ -939,7 +939,7 @@ struct usm_key_bits_reply {
  * wrong, and nothing changes (proved). A video payload of data type 0 and 0x240 bytes or more shows all that count:
  * 0x00FFFF0FFFFFFFFF. An ADX payload of data type 0 shows, from 0x141 bytes on, bits 0 to 7; from 0x143 16 to 23 too; from
  * 0x145 32 to 35; from 0x147 48 to 55; from 0x149 8 to 15; from 0x14F 24 to 31; from 0x159 40 to 47, which are all. No
- * stream is unpacked, and no key is needed. It needs 1,912 bytes of stack below its call.
+ * stream is unpacked, and no key is needed. It needs 1,488 bytes of stack below its call.
  */
 struct usm_key_bits_reply usm_key_bits(const uint8_t *container, size_t len, struct usm_reading reading);
 
@@ -969,7 +969,7 @@ struct usm_apart_reply {
 /*
  * The first byte at which the streams of a film differ under two keys: of what usm_extract leaves under the one and the
  * other, all bytes of that stream before it are the same and it is not; where it is one of the audio, the video streams
- * are the same; and where no byte is named, both streams are (proved). No stream is unpacked. It needs 2,120 bytes of
+ * are the same; and where no byte is named, both streams are (proved). No stream is unpacked. It needs 1,696 bytes of
  * stack below its call.
  */
 struct usm_apart_reply usm_apart(const uint8_t *container, size_t len, struct usm_reading reading, uint64_t key,

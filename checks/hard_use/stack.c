@@ -354,14 +354,14 @@ struct reader {
 };
 
 static const struct reader READERS[] = {
-    {"usm_open", ask_open, 1944},
-    {"usm_step", ask_step, 104},
+    {"usm_open", ask_open, 1520},
+    {"usm_step", ask_step, 88},
     {"usm_clear", ask_clear, 392},
-    {"usm_clear_piece, first", ask_first_piece, 568},
-    {"usm_clear_piece", ask_piece, 568},
-    {"usm_key_bits", ask_bits, 1912},
+    {"usm_clear_piece, first", ask_first_piece, 472},
+    {"usm_clear_piece", ask_piece, 472},
+    {"usm_key_bits", ask_bits, 1488},
     {"usm_payload_bits", ask_payload_bits, 8},
-    {"usm_apart", ask_apart, 2120},
+    {"usm_apart", ask_apart, 1696},
     {"usm_payload_apart", ask_payload_apart, 336},
     {"usm_why", ask_why, 8},
 };

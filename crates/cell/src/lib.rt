@@ -67,8 +67,8 @@ impl TryFrom<u8> for ValueType {
     }
 }
 
-// The bytes that a value of each type takes; 0 marks an unknown type. A table: a `match` over the types takes `usm_column` a quarter more
-// instructions (docs/LOOK-BACK.md).
+// The bytes that a value of each type takes; 0 marks an unknown type. A table: a `match` over the types takes `usm_column` two thirds
+// more instructions (docs/LOOK-BACK.md).
 const WIDTHS: [u8; 16] = [1, 1, 2, 2, 4, 4, 8, 0, 4, 0, 4, 8, 0, 0, 0, 0];
 
 // The bytes that a value of a type takes, 0 for an unknown type.

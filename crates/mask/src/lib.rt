@@ -212,7 +212,9 @@ pub fn unmask_video_on(rows: &mut [u8], last: [u8; 32], keys: Keys)
         return;
     }
     xor_in(&mut rows[0..ROW], first);
-    clear_rows(rows, &keys.v);
+    // V by itself: to lend it as a part of the keys takes a copy of all three tables on the stack.
+    let v = keys.v;
+    clear_rows(rows, &v);
 }
 
 // Masks a video payload in place: the head first, while the tail is clear. The Rust's `apply_video_mask`.

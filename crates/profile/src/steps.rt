@@ -104,8 +104,10 @@ pub fn step(bytes: &[u8], place: usize, known: Profiling) -> Profiling
     ensures { result ≡ stepped bytes.now place known }
 {
     let streams = streams_in(known);
+    // First, so that the verdict need not be kept while a marker is compared.
+    let after = after_chunk(bytes, streams);
     let verdict = first_broken(known, judge_chunk(bytes, place, streams));
-    in_numbers(verdict, after_chunk(bytes, streams))
+    in_numbers(verdict, after)
 }
 
 // What is answered of a film of so many bytes, after its last chunk.

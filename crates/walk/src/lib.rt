@@ -11,7 +11,7 @@ use chunk::Kind;
 use reading::Applied;
 use refusal::Refusal;
 
-// What the chunks come to, or the first refusal.
+// What the chunks come to.
 #[derive(Clone, Copy)]
 pub struct Sizes {
     pub count: usize,

@@ -25,10 +25,9 @@ fn rest_at(bytes: &[u8], place: usize) -> &[u8]
     bytes.get(place..).unwrap_or(&[])
 }
 
-// Fewer bytes than N, and zeros after them. Out of line, so that a read of bytes that are there takes up no stack; and byte by byte,
-// since a copy of so many is a call of `memcpy`.
-#[cold]
-#[inline(never)]
+// Fewer bytes than N, and zeros after them. Byte by byte, since a copy of so many is a call of `memcpy`; and in line, since a call takes up
+// stack in every function that reads.
+#[inline]
 fn with_zeros<const N: usize>(bytes: &[u8]) -> [u8; N]
     ensures { (k : ℕ) → k < N → slice_index result k ≡ at bytes.now k }
 {
