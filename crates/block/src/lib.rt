@@ -44,8 +44,8 @@ const MARKED: usize = 45;
 // The bytes between a last block and the chunks.
 const GAP: usize = 16;
 
-// The letters and the size of the block at a place: where the next stands. Other letters are refused as `missing`. Out of line, so that the
-// kinds of block below are small enough to stand in line: their calls hand over causes in memory, which deepens the stack of `header`.
+// The letters and the size of the block at a place: where the next stands. Other letters are refused as `missing`. Out of line:
+// otherwise most kinds of block below are too large to be inlined, and what each of them is handed takes up stack in `header`.
 #[inline(never)]
 fn head_at(bytes: &[u8], letters: usize, missing: Cause, place: usize) -> Result<usize, Refusal>
     ensures { result ≡ head_at bytes.now letters missing place }

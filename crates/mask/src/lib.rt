@@ -212,7 +212,7 @@ pub fn unmask_video_on(rows: &mut [u8], last: [u8; 32], keys: Keys)
         return;
     }
     xor_in(&mut rows[0..ROW], first);
-    // V by itself: to lend it as a part of the keys takes a copy of all three tables on the stack.
+    // A copy of V alone: to lend `&keys.v` makes the compiler copy all three tables to the stack.
     let v = keys.v;
     clear_rows(rows, &v);
 }

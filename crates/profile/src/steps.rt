@@ -104,7 +104,7 @@ pub fn step(bytes: &[u8], place: usize, known: Profiling) -> Profiling
     ensures { result ≡ stepped bytes.now place known }
 {
     let streams = streams_in(known);
-    // First, so that the verdict need not be kept while a marker is compared.
+    // Before the verdict, which would otherwise be kept on the stack while a marker is compared.
     let after = after_chunk(bytes, streams);
     let verdict = first_broken(known, judge_chunk(bytes, place, streams));
     in_numbers(verdict, after)

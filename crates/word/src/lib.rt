@@ -25,7 +25,7 @@ fn rest_at(bytes: &[u8], place: usize) -> &[u8]
     bytes.get(place..).unwrap_or(&[])
 }
 
-// Fewer bytes than N, and zeros after them. Byte by byte, since a copy of so many is a call of `memcpy`; and in line, since a call takes up
+// Fewer bytes than N, and zeros after them. Byte by byte, since a copy of a slice becomes a call of `memcpy`; inlined, since a call costs
 // stack in every function that reads.
 #[inline]
 fn with_zeros<const N: usize>(bytes: &[u8]) -> [u8; N]
